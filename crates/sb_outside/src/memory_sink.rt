@@ -120,9 +120,9 @@ impl Sink for MemorySink {
             × (self.new ≡ record self.old { taken = self.old.taken ++ piece.now; calls = one_more self.old.calls })) }
         ensures cut_short { OnErr result ((count : ℕ) × (cut_of self.old (length piece.now) ≡ Some count)
             × (self.new ≡ record self.old {
-                taken = self.old.taken ++ take count piece.now;
-                calls = one_more self.old.calls;
-                faults = min (self.old.faults + 1) (2 ^ 64 - 1);
+              taken = self.old.taken ++ take count piece.now;
+              calls = one_more self.old.calls;
+              faults = min (self.old.faults + 1) (2 ^ 64 - 1);
             })) }
     {
         let left = self.room - self.taken.len();
