@@ -86,6 +86,16 @@ equals = Symbol (codes "=")
 
 -- ---- parts of statements
 
+-- each item has the property
+abbrev pub Every : {A : Type 0} → (A → Type 0) → List A → Type 0
+Every P [] = Unit {0}
+Every P (x ∷ xs) = P x × Every P xs
+
+-- there is an item
+abbrev pub HasItem : {A : Type 0} → List A → Type 0
+HasItem [] = ⊥
+HasItem (x ∷ xs) = Unit {0}
+
 -- the items one after the other, with this lexeme between two
 abbrev pub joined_by : Lexeme → List (List Lexeme) → List Lexeme
 joined_by between [] = []
