@@ -3,3 +3,4 @@ mod FormulaDepth
 mod FormulaComplete
 mod FormulaSound
 mod FormulaCanon
+mod Numerals

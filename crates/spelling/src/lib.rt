@@ -2,4 +2,7 @@
 //! derivations, catalogues, queries and rule files, and the laws that one text spells at most one tree.
 #![tactic(auto)]
 
+mod cursor;
 pub mod words;
+
+pub use cursor::Cursor;

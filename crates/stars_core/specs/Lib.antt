@@ -1,5 +1,6 @@
 pub mod CommandLine
 pub mod Lines
+pub mod HeapRules
 pub mod Built
 pub mod Faults
 pub mod Judging
