@@ -3,3 +3,6 @@ mod FormulaDepth
 mod FormulaComplete
 mod FormulaSound
 mod FormulaCanon
+mod Statements
+mod CatalogueLaws
+mod QueryLaws
