@@ -7,7 +7,7 @@ use Rattle.star_model.specs.declared.catalogue.ColType.{ColType}
 use Rattle.star_model.specs.declared.catalogue.ColType.TheVariants as type
 use Rattle.spelling.specs.Lexemes.{Lexeme, Word, Number, Text, comma, right_bracket, joined_by, Every, HasItem}
 use Rattle.spelling.specs.Catalogues.{CatalogueStatement, Site, Table, Index, TablePart, IndexPart, type_word, column_lexemes, name_lexemes, catalogue_lexemes, HasColumns, SpellsCatalogueStatement, SpellsCatalogue, catalogue_of}
-use Rattle.spelling.proofs.Statements.{one_list, same_lists, series, anything}
+use Rattle.spelling.proofs.Statements.{one_list, same_lists, series, anything, tails}
 
 same_type : (x y : ColType) → type_word x ≡ type_word y → x ≡ y
 same_type type.Int type.Int e = refl
@@ -32,9 +32,6 @@ same_columns : (cs ds : List ColumnDef) (r s : List Lexeme) → HasItem cs → H
     → joined_by comma (map column_lexemes cs) ++ right_bracket ∷ r ≡ joined_by comma (map column_lexemes ds) ++ right_bracket ∷ s → cs ≡ ds
 same_columns cs ds r s h k e =
     (series column_lexemes (λ _. Unit {0}) (λ _. Unit {0}) comma (λ _. tt) same_column cs ds (right_bracket ∷ r) (right_bracket ∷ s) h k (anything cs) (anything ds) (tt, λ t f. cc) (tt, λ t f. cc) e).0
-
-tails : (x : Lexeme) (r s : List Lexeme) → x ∷ r ≡ x ∷ s → r ≡ s
-tails x r s e = cc
 
 same_names : (cs ds : List (List ℕ)) (r s : List Lexeme) → HasItem cs → HasItem ds
     → joined_by comma (map name_lexemes cs) ++ right_bracket ∷ r ≡ joined_by comma (map name_lexemes ds) ++ right_bracket ∷ s → (cs ≡ ds) × (r ≡ s)

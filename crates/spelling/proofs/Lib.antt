@@ -6,3 +6,4 @@ mod FormulaCanon
 mod Statements
 mod CatalogueLaws
 mod QueryLaws
+mod DerivationLaws

@@ -7,10 +7,7 @@ use Rattle.star_model.specs.declared.query.Cmp.TheVariants as cmp
 use Rattle.spelling.specs.Lexemes.{Lexeme, Word, Number, Text, Symbol, comma, joined_by, Every, HasItem}
 use Rattle.spelling.specs.Names.{is_among, found_in}
 use Rattle.spelling.specs.Queries.{ColumnName, Item, Constant, Whole, Negative, Quoted, Side, OfColumn, OfConstant, Comparison, QueryStatement, column_lexemes, own_name, IsFreeIfAny, item_lexemes, cmp_lexeme, constant_lexemes, side_lexemes, comparison_lexemes, columns_lexemes, where_lexemes, order_lexemes, at_lexemes, query_lexemes, reserved_in_queries, IsFree, HasFreeNames, IsQueryStatement, SpellsQueryStatement, SpellsQuery, query_of}
-use Rattle.spelling.proofs.Statements.{one_list, series, anything, differ}
-
-heads : (x y : Lexeme) (r s : List Lexeme) → x ∷ r ≡ y ∷ s → (x ≡ y) × (r ≡ s)
-heads x y r s e = (cc, cc)
+use Rattle.spelling.proofs.Statements.{one_list, series, anything, differ, heads}
 
 same_column : (c d : ColumnName) (r s : List Lexeme) → Unit {0} → Unit {0} → Unit {0} → Unit {0} → column_lexemes c ++ r ≡ column_lexemes d ++ s → (c ≡ d) × (r ≡ s)
 same_column c d r s _ _ _ _ e =

@@ -41,6 +41,15 @@ differ a b other e =
     let is = same_self a in
     cc
 
+pub heads : (x y : Lexeme) (r s : List Lexeme) → x ∷ r ≡ y ∷ s → (x ≡ y) × (r ≡ s)
+heads x y r s e = (cc, cc)
+
+pub tails : (x : Lexeme) (r s : List Lexeme) → x ∷ r ≡ x ∷ s → r ≡ s
+tails x r s e = cc
+
+pub apart : (a b : List ℕ) (r s : List Lexeme) → same_numbers a b ≡ false → Word a ∷ r ≡ Word b ∷ s → ⊥
+apart a b r s other e = differ a b other (heads (Word a) (Word b) r s e).0
+
 -- Items, of which none is the beginning of another where what follows is of a kind, and a lexeme between two.
 module _ {A : Type 0} (spell : A → List Lexeme) (Ok : A → Type 0) (Follow : List Lexeme → Type 0) (between : Lexeme)
     (follows : (r : List Lexeme) → Follow (between ∷ r))
