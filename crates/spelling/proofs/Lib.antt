@@ -4,3 +4,7 @@ mod FormulaComplete
 mod FormulaSound
 mod FormulaCanon
 mod Numerals
+mod Statements
+mod CatalogueLaws
+mod QueryLaws
+mod DerivationLaws
