@@ -71,15 +71,14 @@ mod tests {
     #[test]
     fn reads_files(rt: HostRuntime) -> Result<(), Fail> {
         let alloc = rt.alloc();
-        fs::write(&rt, "five", b"12345")?;
-        fs::create_dir(&rt, "folder")?;
+        fs::write(&rt, "five.txt", b"12345")?;
         let mut shelf = FileShelf::new(&rt);
         let rows = [
-            ("five", 5, Ok("12345")),
-            ("five", 4, Err(ShelfFault::TooLong)),
-            ("five", usize::MAX, Ok("12345")),
-            ("none", 5, Err(ShelfFault::Failed)),
-            ("folder", 5, Err(ShelfFault::Failed)),
+            ("five.txt", 5, Ok("12345")),
+            ("five.txt", 4, Err(ShelfFault::TooLong)),
+            ("five.txt", usize::MAX, Ok("12345")),
+            ("none.txt", 5, Err(ShelfFault::Failed)),
+            (".", 5, Err(ShelfFault::Failed)),
         ];
         for (name, max, wanted) in rows {
             match (shelf.bytes(alloc, name, max), wanted) {
@@ -88,10 +87,11 @@ mod tests {
                 _ => assert!(rt; false, "{name} to {max}"),
             }
         }
+        fs::remove_file(&rt, "five.txt")?;
         assert_eq!(rt; (shelf.calls, shelf.faults, shelf.taken), (5, 2, 15));
         let last = shelf.last.ok_or("no failed call")?;
         assert!(rt; !last.is_records());
-        assert_eq!(rt; last.name(), "folder");
+        assert_eq!(rt; last.name(), ".");
         Ok(())
     }
 }

@@ -47,14 +47,18 @@ mod tests {
     #[test]
     fn writes_all_or_fails(rt: HostRuntime) -> Result<(), Fail> {
         {
-            let mut sink = Stream::new(fs::create(&rt, "out")?);
+            let mut sink = Stream::new(fs::create(&rt, "stream.txt")?);
             assert_eq!(rt; sink.put(b"one, "), Ok(()));
             assert_eq!(rt; sink.put(b""), Ok(()));
             assert_eq!(rt; sink.put(b"two"), Ok(()));
             assert_eq!(rt; (sink.puts, sink.faults), (3, 0));
         }
-        assert_eq!(rt; fs::read(&rt, "out")?.as_slice(), b"one, two".as_slice());
-        let mut sink = Stream::new(fs::open(&rt, "out")?);
+        assert_eq!(rt;
+            fs::read(&rt, "stream.txt")?.as_slice(),
+            b"one, two".as_slice()
+        );
+        let mut sink = Stream::new(fs::open(&rt, "stream.txt")?);
+        fs::remove_file(&rt, "stream.txt")?;
         assert_eq!(rt; sink.put(b"three"), Err(SinkFault::Failed));
         assert_eq!(rt; sink.put(b""), Ok(()));
         assert_eq!(rt; (sink.puts, sink.faults), (2, 1));
