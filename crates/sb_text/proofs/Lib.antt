@@ -1,0 +1,4 @@
+pub mod Quoted
+pub mod Steps
+pub mod Parts
+pub mod Deepest

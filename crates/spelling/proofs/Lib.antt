@@ -1,0 +1,5 @@
+mod FormulaTurns
+mod FormulaDepth
+mod FormulaComplete
+mod FormulaSound
+mod FormulaCanon

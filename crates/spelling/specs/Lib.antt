@@ -1,0 +1,11 @@
+pub mod Lexemes
+pub mod Layout
+pub mod Names
+pub mod Flavours
+pub mod Derivations
+pub mod Catalogues
+pub mod Queries
+pub mod FormulaGrammar
+pub mod FormulaCanonical
+pub mod FormulaReading
+pub mod Formulas

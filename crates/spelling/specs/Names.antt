@@ -1,0 +1,21 @@
+-- Names that are looked up in lists of names.
+use Rattle.std.specs.Prelude.{◌≡◌, ℕ, Bool, true, false, List, [], ◌∷◌, Option, Some, None, option_map, option_and_then}
+use Rattle.std.specs.List.{position, list_any}
+use Rattle.star_model.specs.Vectors.{same_numbers}
+
+-- the place of the first of these names that is this one
+abbrev pub place_of : List ℕ → List (List ℕ) → Option ℕ
+place_of name names = position (same_numbers name) names
+
+abbrev pub is_among : List (List ℕ) → List ℕ → Bool
+is_among names name = list_any (same_numbers name) names
+
+-- all of the results, where each is there
+abbrev pub all_of : {A : Type 0} → List (Option A) → Option (List A)
+all_of [] = Some []
+all_of (None ∷ later) = None
+all_of (Some x ∷ later) = option_map (λ xs. x ∷ xs) (all_of later)
+
+infixl 10 ◌>>=◌
+abbrev pub ◌>>=◌ : {A B : Type 0} → Option A → (A → Option B) → Option B
+found >>= next = option_and_then next found

@@ -1,0 +1,5 @@
+//! What it means that a text spells a tree: the lexemes of all formats, their layout, the grammars of
+//! derivations, catalogues, queries and rule files, and the laws that one text spells at most one tree.
+#![tactic(auto)]
+
+pub mod words;

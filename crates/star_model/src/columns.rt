@@ -1,0 +1,130 @@
+// Sites, quantifiers and columns, by their positions from 0.
+
+ghost use Rattle.std.specs.Prelude.{◌≡◌, ◌<◌, ◌≤◌, [], ◌∷◌, ◌++◌, length, IsOk, ◌↔◌, OnOk, OnErr, IfErr, replicate};
+ghost use Rattle.star_model.specs.Columns.{has_column};
+
+use arrayvec::ArrayVec;
+use std::marker::Model;
+
+/// A site, by its position in the catalogue.
+#[derive(Clone, Copy, Debug, Default, PartialEq, Eq, PartialOrd, Ord, Hash)]
+pub struct Site(pub u8);
+
+/// A quantifier, by its position in the query.
+#[derive(Clone, Copy, Debug, Default, PartialEq, Eq, PartialOrd, Ord, Hash)]
+pub struct Quant(pub u8);
+
+/// A column of a quantifier, by its position in the quantifier's table.
+#[derive(Clone, Copy, Debug, Default, PartialEq, Eq, PartialOrd, Ord, Hash)]
+pub struct Col {
+    pub quant: Quant,
+    pub column: u8,
+}
+
+/// A list of at most 16 columns: an order, a path, or the columns that an operator is given.
+#[derive(Drop)]
+pub struct ColList {
+    cols: ArrayVec<Col, 16>,
+}
+
+impl Model for ColList {
+    ghost use Rattle.std.specs.Prelude.{List};
+    ghost use Rattle.star_model.specs.declared.columns.Col.{Col};
+
+    ghost Value = { List Col };
+
+    ghost view = { λ a. a.cols.items };
+}
+
+impl ColList {
+    pub fn new() -> ColList
+        ensures { result ≡ [] }
+    {
+        ColList {
+            cols: ArrayVec::new(),
+        }
+    }
+
+    pub fn len(&self) -> usize
+        ensures { result ≡ length self.now }
+    {
+        self.cols.len()
+    }
+
+    pub fn as_slice(&self) -> &[Col]
+        ensures value { result.now ≡ self.now }
+        ensures room { length result.now ≤ 16 }
+    {
+        self.cols.as_slice()
+    }
+
+    /// Adds the column at the end, or gives it back where there are 16.
+    pub fn try_push(&mut self, item: Col) -> Result<(), Col>
+        ensures variant { IsOk result ↔ (length self.old < 16) }
+        ensures ok { OnOk result (self.new ≡ self.old ++ item ∷ []) }
+        ensures err { OnErr result (self.new ≡ self.old) }
+        ensures given_back { IfErr result (λ c. c ≡ item) }
+    {
+        if self.cols.len() < 16 {
+            self.cols.push(item);
+            Ok(())
+        } else {
+            Err(item)
+        }
+    }
+
+    /// An equal list. It takes no memory.
+    pub fn copied(&self) -> ColList
+        ensures { result ≡ self.now }
+    {
+        copy_of(self.as_slice())
+    }
+}
+
+fn copy_of(cols: &[Col]) -> ColList
+    requires { length cols.now ≤ 16 }
+    ensures { result ≡ cols.now }
+{
+    let mut copy = ColList::new();
+    for (i, col) in cols.iter().enumerate() {
+        let pushed = copy.try_push(*col);
+        prove!(pushed.is_ok());
+    }
+    copy
+}
+
+/// A set of columns: for each of 12 quantifiers the mask of its columns.
+#[derive(Clone, Copy, Debug, PartialEq, Eq)]
+pub struct ColSet {
+    masks: [u32; 12],
+}
+
+impl Model for ColSet {
+    ghost use Rattle.std.specs.Prelude.{ℕ, List};
+
+    ghost Value = { List ℕ };
+
+    ghost view = { λ a. a.masks };
+
+    ghost inverse = { λ m. record { masks = m } };
+}
+
+impl ColSet {
+    pub fn empty() -> Self
+        ensures { result ≡ replicate 12 0 }
+    {
+        ColSet { masks: [0; 12] }
+    }
+
+    #[tactic(auto, using(crate::proofs::ColumnLaws::has_column_rules))]
+    pub fn has(&self, col: Col) -> bool
+        ensures { result ≡ has_column self.now col }
+    {
+        if col.quant.0 < 12 {
+            let mask = self.masks[col.quant.0 as usize];
+            col.column < 32 && (mask >> col.column) & 1 == 1
+        } else {
+            false
+        }
+    }
+}

@@ -1,0 +1,17 @@
+// The types of the optimizer, its cut arithmetic, and the definitions of planning.
+#![tactic(auto)]
+
+pub mod catalogue;
+pub mod columns;
+pub mod costs;
+pub mod derivations;
+pub mod faults;
+pub mod formula;
+pub mod laws;
+pub mod lists;
+pub mod num;
+pub mod plans;
+pub mod query;
+pub mod rules;
+pub mod sets;
+pub mod values;

@@ -1,0 +1,24 @@
+// The values of the rule language.
+
+use crate::columns::{ColList, Site};
+use crate::plans::Require;
+use crate::sets::{PredSet, QuantSet};
+
+/// A nonempty set of quantifiers, and what is required of its plans.
+#[derive(Drop)]
+pub struct StreamValue {
+    pub tables: QuantSet,
+    pub require: Require,
+}
+
+/// What an expression of the rule language stands for, one variant for each kind.
+#[derive(Drop)]
+pub enum RuleValue {
+    Stream(StreamValue),
+    Quants(QuantSet),
+    Preds(PredSet),
+    Cols(ColList),
+    Site(Site),
+    /// The position of an index in the catalogue.
+    Index(u8),
+}

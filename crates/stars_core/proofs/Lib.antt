@@ -1,0 +1,5 @@
+mod Words
+pub mod FaultLaws
+pub mod Along
+pub mod Causes
+pub mod Derived
