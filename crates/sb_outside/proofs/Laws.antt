@@ -1,5 +1,5 @@
 -- Laws of what shelves tell and count. Each is the clause of a public function of this crate.
-use Rattle.std.proofs.Common.{◌≡◌, ◌<◌, ◌+◌, ◌∙◌, ℕ, List, length, replicate, Option, None, Some, IsSomeAnd, refl, sym, arith, suc}
+use Rattle.std.proofs.Common.{◌≡◌, ◌<◌, ◌+◌, ◌∙◌, ℕ, List, length, replicate, Option, None, Some, IsSomeAnd, refl, arith, suc}
 use Rattle.std.proofs.lemmas.List.{length-replicate}
 use Rattle.sb_outside.specs.Shelf.{Files, Call, ShelfState, TellsBytes, TellsMore, GoesBy, FailsAt, NoFault}
 

@@ -1,5 +1,5 @@
 -- Files by their names, and calls by their numbers, as a shelf in memory finds them.
-use Rattle.std.specs.Prelude.{◌≡◌, ◌⊎◌, ◌≤◌, ◌+◌, ◌-◌, ◌^◌, min, None, Some, Contains, ℕ, List, Option, option_map, find, Vec, String, string_bytes}
+use Rattle.std.specs.Prelude.{◌⊎◌, ◌≤◌, ◌+◌, ◌-◌, ◌^◌, min, Contains, ℕ, List, Option, option_map, find, Vec, String, string_bytes}
 use Rattle.std.specs.Str.{bytes_eq}
 use Rattle.std.specs.declared.alloc.Global.{Global}
 
