@@ -8,3 +8,5 @@ mod Statements
 mod CatalogueLaws
 mod QueryLaws
 mod DerivationLaws
+mod TokenForms
+mod Undoubling

@@ -1,8 +1,10 @@
 // Reading the lexemes of a statement from the front.
 ghost use Rattle.std.specs.Prelude.{◌≡◌, option_map, option_copied, ℕ, IsTrue, ◌↔◌, [], ◌<◌, length, drop};
-ghost use Rattle.spelling.specs.Lexemes.{undoubled, lexemes_of};
-ghost use Rattle.spelling.specs.Cursors.{AreIn, IsMachineNumber};
+ghost use Rattle.spelling.specs.Lexemes.{undoubled, lexeme_of, lexemes_of};
+ghost use Rattle.spelling.specs.Cursors.{AreTokensOf, IsMachineNumber};
 ghost use Rattle.std.specs.Str.Parse.{digits_value};
+ghost use Rattle.sb_text.specs.Tokens.{text_of};
+ghost use Rattle.sb_text.specs.Reading.{IsTokenOf};
 ghost use Rattle.spelling.specs.Reading.{Reads, the_word, the_symbol, a_word, a_number, a_text};
 
 use sb_text::{Token, TokenKind};
@@ -18,13 +20,13 @@ pub struct Cursor<'a> {
 impl<'a> Model for Cursor<'a> {
     ghost use Rattle.std.specs.Prelude.{List};
     ghost use Rattle.spelling.specs.Lexemes.{Lexeme, lexemes_of};
-    ghost use Rattle.spelling.specs.Cursors.{AreIn};
+    ghost use Rattle.spelling.specs.Cursors.{AreTokensOf};
 
     ghost Value = { List Lexeme };
 
     ghost view = { λ c. lexemes_of c.source.now c.left.now };
 
-    ghost invariant = { λ c. AreIn c.source.now c.left.now };
+    ghost invariant = { λ c. AreTokensOf c.source.now c.left.now };
 }
 
 fn behind_first(bytes: &[u8]) -> &[u8]
@@ -46,10 +48,43 @@ fn value_of(digits: &[u8]) -> u64
     value
 }
 
+// The number that a token of the source says.
+fn number_of(source: &[u8], token: &Token) -> u64
+    requires token { IsTokenOf source.now token.now }
+    requires number { token.now.kind ≡ TokenKind.Number }
+    ensures { result ≡ digits_value 10 (text_of source.now token.now) }
+{
+    value_of(&source[token.start as usize..token.end as usize])
+}
+
+fn same_text(source: &[u8], token: &Token, other: &[u8], theirs: &Token) -> bool
+    requires token { IsTokenOf source.now token.now }
+    requires theirs { IsTokenOf other.now theirs.now }
+    ensures { IsTrue result ↔ (text_of source.now token.now ≡ text_of other.now theirs.now) }
+{
+    source[token.start as usize..token.end as usize]
+        == other[theirs.start as usize..theirs.end as usize]
+}
+
+/// Whether a token of one source says the same as a token of another.
+pub fn same_lexeme(source: &[u8], token: &Token, other: &[u8], theirs: &Token) -> bool
+    requires token { IsTokenOf source.now token.now }
+    requires theirs { IsTokenOf other.now theirs.now }
+    ensures { IsTrue result ↔ (lexeme_of source.now token.now ≡ lexeme_of other.now theirs.now) }
+{
+    if token.kind != theirs.kind {
+        return false;
+    }
+    if token.kind == TokenKind::Number {
+        return number_of(source, token) == number_of(other, theirs);
+    }
+    same_text(source, token, other, theirs)
+}
+
 impl<'a> Cursor<'a> {
     /// All lexemes of these tokens of the source.
     pub fn new(source: &'a [u8], tokens: &'a [Token]) -> Cursor<'a>
-        requires { AreIn source.now tokens.now }
+        requires { AreTokensOf source.now tokens.now }
         ensures { result ≡ lexemes_of source.now tokens.now }
     {
         Cursor { source, left: tokens }
@@ -116,9 +151,9 @@ impl<'a> Cursor<'a> {
     {
         match self.left {
             [token, rest @ ..] if token.kind == TokenKind::Number => {
-                let bytes = &self.source[token.start as usize..token.end as usize];
+                let number = number_of(self.source, token);
                 self.left = rest;
-                Some(value_of(bytes))
+                Some(number)
             }
             _ => None,
         }

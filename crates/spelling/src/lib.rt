@@ -5,4 +5,4 @@
 mod cursor;
 pub mod words;
 
-pub use cursor::Cursor;
+pub use cursor::{Cursor, same_lexeme};
