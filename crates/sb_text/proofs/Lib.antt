@@ -8,3 +8,7 @@ pub mod SymbolForm
 pub mod Longest
 pub mod Gaps
 pub mod Readings
+pub mod Spans
+pub mod Ends
+pub mod Accepted
+pub mod Laws

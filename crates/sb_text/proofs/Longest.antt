@@ -1,9 +1,8 @@
 -- The token that is found at the front is of its form, and no longer front is a token.
-use Rattle.std.proofs.Common.{◌≡◌, ◌+◌, ◌≤◌, ◌<◌, ℕ, Bool, true, false, not, ◌==◌, ◌&&◌, nat_le, List, [], ◌∷◌, ◌++◌, length, take, drop, map, Option, None, Some, refl, ap, sym, ◌∙◌, arith, suc, subst, add-one, length-append, append_assoc}
+use Rattle.std.proofs.Common.{◌≡◌, ◌+◌, ◌≤◌, ℕ, Bool, true, false, not, ◌&&◌, nat_le, List, [], ◌∷◌, ◌++◌, length, take, drop, map, Option, None, Some, refl, ap, sym, ◌∙◌, arith, subst, add-one, length-append, append_assoc}
 use Rattle.std.specs.Prelude.{codes}
 use Rattle.std.specs.Option.{IsSomeAnd}
-use Rattle.std.specs.List.{All, AllPass, list_all}
-use Rattle.std.specs.Bool.{IsFalse}
+use Rattle.std.specs.List.{All, AllPass}
 use Rattle.std.proofs.lemmas.Bool.{eqb-true}
 use Rattle.std.proofs.lemmas.Bool.Decides.{nat_tests}
 use Rattle.std.proofs.lemmas.List.Elements.{All-nil, All-cons, All-head, All-tail, All-map, All-append, All-contains, All-weaker}
@@ -12,7 +11,7 @@ use Rattle.std.proofs.lemmas.List.{take-append-drop, length-take, length-take-le
 use Rattle.sb_text.specs.declared.token.TokenKind.{TokenKind}
 use Rattle.sb_text.specs.declared.token.TokenKind.TheVariants.{Word, Number, Text, Symbol}
 use Rattle.sb_text.specs.Bytes.{begins_word, is_digit, is_in_word, is_quote, is_symbol, is_double, symbol_bytes}
-use Rattle.sb_text.specs.Forms.{IsWord, IsNumber, IsText, IsSymbol, IsToken, NotFirst, doubled, quoted, symbols}
+use Rattle.sb_text.specs.Forms.{IsWord, IsNumber, IsToken, doubled, quoted, symbols}
 use Rattle.sb_text.specs.Front.{run, token_at, number_len, kind_and_len, longer_by, quoted_len, symbol_len, IsLongest, NoneBegins}
 use Rattle.sb_text.proofs.Runs.{le-run, run-all, Splits, run-splits}
 use Rattle.sb_text.proofs.TextForm.{le-quoted_len, Closes, closes}
@@ -70,14 +69,14 @@ text_most inner after =
     (of_len Text (longer_by 1 (quoted_len (doubled inner ++ 39 ∷ after))) (length (quoted inner))
     (one_more (quoted_len (doubled inner ++ 39 ∷ after)) (length (doubled inner) + 1) (length (quoted inner)) (omega (arith, length-append (doubled inner) (39 ∷ []))) (le-quoted_len inner after)))
 
-abbrev is_single : ℕ → Bool
+abbrev pub is_single : ℕ → Bool
 is_single b = is_symbol b && (not (begins_word b) && (not (is_digit b) && not (is_quote b)))
 
-record Single (b : ℕ) : Type 0 where
-  symbol : is_symbol b ≡ true
-  word : begins_word b ≡ false
-  digit : is_digit b ≡ false
-  quote : is_quote b ≡ false
+pub record Single (b : ℕ) : Type 0 where
+  pub symbol : is_symbol b ≡ true
+  pub word : begins_word b ≡ false
+  pub digit : is_digit b ≡ false
+  pub quote : is_quote b ≡ false
 
 single_from : (p q r s : Bool) → (p && (not q && (not r && not s))) ≡ true → (p ≡ true) × (q ≡ false) × (r ≡ false) × (s ≡ false)
 single_from true false false false e = (refl, refl, refl, refl)
@@ -86,13 +85,18 @@ single_from true false true s e = cc
 single_from true true r s e = cc
 single_from false q r s e = cc
 
+pub single_tests : (b : ℕ) → is_single b ≡ true → Single b
+single_tests b e =
+    let t = single_from (is_symbol b) (begins_word b) (is_digit b) (is_quote b) e in
+    record { symbol = t.0; word = t.1; digit = t.2; quote = t.3 }
+
 abbrev SymbolMost : List ℕ → List ℕ → Type 0
 SymbolMost after front = AtLeast Symbol (length front) (front ++ after)
 
 single_most : (after : List ℕ) (b : ℕ) → is_single b ≡ true → SymbolMost after (b ∷ [])
 single_most after b e =
-    let tests = single_from (is_symbol b) (begins_word b) (is_digit b) (is_quote b) e in
-    rw (token_at-other b after tests.1 tests.2 tests.3) (of_len Symbol (symbol_len b after) 1 (le-symbol_len b after tests.0))
+    let s = single_tests b e in
+    rw (token_at-other b after s.word s.digit s.quote) (of_len Symbol (symbol_len b after) 1 (le-symbol_len b after s.symbol))
 
 double_most : (after : List ℕ) (b c : ℕ) → begins_word b ≡ false → is_digit b ≡ false → is_quote b ≡ false → is_double b c ≡ true → SymbolMost after (b ∷ c ∷ [])
 double_most after b c e f g h = rw (token_at-other b (c ∷ after) e f g, symbol_len-double b c after h) (refl, omega arith)

@@ -1,8 +1,7 @@
 -- The relation of reading and the function that reads are one.
-use Rattle.std.proofs.Common.{◌≡◌, ◌+◌, ◌-◌, ◌≤◌, ◌<◌, ℕ, Bool, true, false, ◌==◌, nat_lt, List, [], ◌∷◌, ◌++◌, length, take, drop, get_or, Option, None, Some, refl, ap, sym, ◌∙◌, arith, suc, zero, subst, add-one, length-append}
+use Rattle.std.proofs.Common.{◌≡◌, ◌+◌, ◌≤◌, ◌<◌, ℕ, Bool, true, false, ◌==◌, nat_lt, List, [], ◌∷◌, ◌++◌, length, take, drop, Option, None, Some, refl, ap, sym, ◌∙◌, arith, suc, zero, subst, length-append}
 use Rattle.std.proofs.lemmas.Bool.{eqb-true, ltb-true}
 use Rattle.std.proofs.lemmas.List.{take-append-drop, length-take-le, length-drop}
-use Rattle.std.specs.List.{All}
 use Rattle.std.proofs.lemmas.List.Elements.{All-contains}
 use Rattle.std.proofs.lemmas.List.Sums.{AllPass-from_list_all}
 use Rattle.sb_text.specs.declared.token.Token.{Token}
@@ -10,14 +9,14 @@ use Rattle.sb_text.specs.declared.token.TokenKind.{TokenKind}
 use Rattle.sb_text.specs.declared.token.TokenKind.TheVariants.{Word, Number, Text, Symbol}
 use Rattle.sb_text.specs.Bytes.{is_blank}
 use Rattle.sb_text.specs.Forms.{IsToken, symbols}
-use Rattle.sb_text.specs.Front.{gap_at, token_at, IsLongest, NoneBegins}
+use Rattle.sb_text.specs.Front.{token_at, IsLongest}
 use Rattle.sb_text.specs.Tokens.{Lexed, lexed, lexed_after, with_front}
 use Rattle.sb_text.specs.Reading.{IsGap, Reads, token_of}
 use Rattle.sb_text.proofs.Steps.{after_gap, after_token, stuck}
 use Rattle.sb_text.proofs.Longest.{longest, longest-token_at, none_begins, none-token_at}
 use Rattle.sb_text.proofs.Gaps.{gap_at-gap, gap_at-none, token_no_gap, Gap, blank_gap, comment_gap}
 
-behind_front : (front after : List ℕ) → drop (length front) (front ++ after) ≡ after
+pub behind_front : (front after : List ℕ) → drop (length front) (front ++ after) ≡ after
 behind_front [] after = refl
 behind_front (b ∷ front) after = behind_front front after
 
@@ -106,6 +105,7 @@ read_within (suc n) at (b ∷ rest) le = by_first (is_blank b) (b == 35) refl re
   by_gap g later =
       let some = (gap_at-gap g.front g.after g.is).1 in
       at_gap at (b ∷ rest) g (later (at + length g.front) g.after (omega (arith, length-append g.front g.after, ap length g.whole)))
+
   by_first : (p q : Bool) → is_blank b ≡ p → (b == 35) ≡ q → ((at : ℕ) (bytes : List ℕ) → length bytes ≤ n → Read at bytes) → Read at (b ∷ rest)
   by_first true q e f later = by_gap (blank_gap b rest e) later
   by_first false true e f later = by_gap (subst (λ x. Gap (x ∷ rest)) (sym (eqb-true b 35 f)) (comment_gap rest)) later

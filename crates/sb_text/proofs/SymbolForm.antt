@@ -1,13 +1,12 @@
 -- The symbols: what `symbol_len` finds is one, and each is found.
-use Rattle.std.proofs.Common.{◌≡◌, ◌+◌, ◌≤◌, ℕ, Bool, true, false, not, ◌==◌, ◌&&◌, ◌||◌, ◌⊎◌, inl, inr, List, [], ◌∷◌, ◌++◌, length, take, map, Contains, Option, None, Some, refl, ap, sym, ◌∙◌, arith, suc, subst}
+use Rattle.std.proofs.Common.{◌≡◌, ◌≤◌, ℕ, Bool, true, false, ◌==◌, ◌&&◌, ◌||◌, ◌⊎◌, inl, inr, List, [], ◌∷◌, length, take, map, Contains, None, Some, refl, ap, sym, ◌∙◌, arith, subst}
 use Rattle.std.specs.Option.{IsSomeAnd}
-use Rattle.std.specs.List.{All, list_any, list_all}
-use Rattle.std.proofs.lemmas.List.Elements.{All-nil, All-cons, All-map, All-append, All-contains, Contains-append_left, Contains-append_right}
-use Rattle.std.proofs.lemmas.List.Sums.{AllPass-from_list_all}
+use Rattle.std.specs.List.{list_any}
+use Rattle.std.proofs.lemmas.List.Elements.{Contains-append_left, Contains-append_right}
 use Rattle.std.proofs.lemmas.Bool.{eqb-true}
 use Rattle.std.specs.Prelude.{codes}
 use Rattle.sb_text.specs.Bytes.{is_symbol, is_double, symbol_bytes}
-use Rattle.sb_text.specs.Forms.{symbols, IsSymbol}
+use Rattle.sb_text.specs.Forms.{IsSymbol}
 use Rattle.sb_text.specs.Front.{symbol_len}
 
 pub symbol_len-double : (b c : ℕ) (rest : List ℕ) → is_double b c ≡ true → symbol_len b (c ∷ rest) ≡ Some 2
@@ -51,7 +50,7 @@ two b c x y e f is = rw (eqb-true b x e, eqb-true c y f) is
 pub double_symbol : (b c : ℕ) → is_double b c ≡ true → IsSymbol (b ∷ c ∷ [])
 double_symbol b c e =
     elim (of_tests (b == 60) (c == 61) (c == 62) (b == 62) e) [
-      inl t ↦ two b c 60 61 t.0 t.1 (17, omega arith, refl)
+      | inl t ↦ two b c 60 61 t.0 t.1 (17, omega arith, refl)
       | inr (inl t) ↦ two b c 60 62 t.0 t.1 (18, omega arith, refl)
       | inr (inr t) ↦ two b c 62 61 t.0 t.1 (19, omega arith, refl)
     ]

@@ -1,5 +1,5 @@
 -- The longest text at the front is of the form of a text, and no text at the front is longer.
-use Rattle.std.proofs.Common.{◌≡◌, ◌+◌, ◌≤◌, ℕ, Bool, true, false, List, [], ◌∷◌, ◌++◌, length, take, drop, Option, None, Some, unwrap_or, refl, ap, sym, ◌∙◌, arith, add-one, suc, length-append, subst}
+use Rattle.std.proofs.Common.{◌≡◌, ◌+◌, ◌≤◌, ℕ, Bool, true, false, List, [], ◌∷◌, ◌++◌, length, take, Option, None, Some, unwrap_or, refl, ap, sym, ◌∙◌, arith, suc, subst}
 use Rattle.std.proofs.lemmas.Bool.{eqb-true}
 use Rattle.std.specs.Option.{IsSomeAnd}
 use Rattle.sb_text.specs.Bytes.{is_quote}

@@ -1,5 +1,5 @@
 -- How a text is read, in the format's words: a relation beside the function that computes it.
-use Rattle.std.specs.Prelude.{◌≡◌, ◌+◌, ◌-◌, ◌<◌, ◌≤◌, ℕ, Bool, IsTrue, ◌==◌, List, [], ◌∷◌, ◌++◌, length, drop, slice_get, Option, None, Some}
+use Rattle.std.specs.Prelude.{◌≡◌, ◌+◌, ◌-◌, ◌<◌, ◌≤◌, ℕ, IsTrue, ◌==◌, List, [], ◌∷◌, ◌++◌, length, drop, slice_get, Option, None, Some}
 use Rattle.std.specs.List.{AllPass}
 use Rattle.std.specs.Bool.{IsFalse}
 use Rattle.sb_text.specs.declared.token.Token.{Token}
