@@ -9,3 +9,5 @@ pub mod FormulaGrammar
 pub mod FormulaCanonical
 pub mod FormulaReading
 pub mod Formulas
+pub mod Values
+pub mod Rules
