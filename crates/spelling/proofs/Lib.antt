@@ -7,3 +7,5 @@ mod Statements
 mod CatalogueLaws
 mod QueryLaws
 mod DerivationLaws
+mod Readers
+mod ValueReading
