@@ -10,3 +10,5 @@ mod QueryLaws
 mod DerivationLaws
 mod TokenForms
 mod Undoubling
+mod Readers
+mod ValueReading

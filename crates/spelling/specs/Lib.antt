@@ -11,3 +11,5 @@ pub mod FormulaReading
 pub mod Formulas
 pub mod Reading
 pub mod Cursors
+pub mod Values
+pub mod Rules
