@@ -3,3 +3,6 @@ pub mod FaultLaws
 pub mod Along
 pub mod Causes
 pub mod Derived
+pub mod HeapLaws
+pub mod Cutting
+pub mod BuiltLaws

@@ -1,6 +1,6 @@
 -- The texts that have a reader: the heap rules, a catalogue of one site and one table of one column at it, and the query
 -- that selects this column.
-use Rattle.std.specs.Prelude.{◌≡◌, ◌⊎◌, ◌<◌, ◌≤◌, ◌+◌, ℕ, List, [], ◌∷◌, length, slice_get, Option, Some, None, IsUtf8}
+use Rattle.std.specs.Prelude.{◌≡◌, ◌<◌, ◌≤◌, ℕ, List, [], ◌∷◌, length, slice_get, Option, Some, None, IsUtf8}
 use Prim.Native.Nat.{zero, suc}
 use Rattle.star_model.specs.Numbers.{top}
 use Rattle.star_model.specs.declared.catalogue.SiteDef.{SiteDef}
@@ -81,34 +81,38 @@ pub record SelectsFrom (statements : List MaybeEnded) (t : TablePart) : Type 0 w
   pub free : IsFree t.name
   pub is : slice_get statements 0 ≡ Some (ended (query_lexemes (select_column t.name column.name)))
 
--- how many statements a built text has
-abbrev pub count_of : TextKind → ℕ
-count_of Rules = 10
-count_of Catalogue = 2
-count_of Query = 1
-
--- the statement with this number, from 0, has a reader
-abbrev pub IsBuiltAt : List Given → Given → ℕ → Type 0
-IsBuiltAt earlier (Rules, r) n = (s : MaybeEnded) × (slice_get (statements_in r) n ≡ Some s) × (slice_get heap_statements n ≡ Some s)
-IsBuiltAt earlier (Catalogue, c) zero = (s : SiteDef) × BeginsSite (statements_in c) s
-IsBuiltAt earlier (Catalogue, c) (suc zero) = (s : SiteDef) × (t : TablePart) × HasTable (statements_in c) s t
-IsBuiltAt earlier (Catalogue, c) (suc (suc n)) = ⊥
-IsBuiltAt earlier (Query, q) zero =
-    (s : SiteDef) × (t : TablePart) × HasTable (statements_in (catalogue_in earlier)) s t × SelectsFrom (statements_in q) t
-IsBuiltAt earlier (Query, q) (suc n) = ⊥
+-- the first place, from 0, at which the lists differ or one of them ends
+abbrev pub DifferAt : List MaybeEnded → List MaybeEnded → ℕ → Type 0
+DifferAt [] [] n = ⊥
+DifferAt [] (y ∷ ys) n = n ≡ 0
+DifferAt (x ∷ xs) [] n = n ≡ 0
+DifferAt (x ∷ xs) (y ∷ ys) zero = x ≡ y → ⊥
+DifferAt (x ∷ xs) (y ∷ ys) (suc n) = (x ≡ y) × DifferAt xs ys n
 
 -- the text has a reader
-pub record IsBuilt (earlier : List Given) (this : Given) : Type 0 where
-  pub count : length (statements_in this.1) ≡ count_of this.0
-  pub each : (n : ℕ) → n < count_of this.0 → IsBuiltAt earlier this n
+abbrev pub IsBuilt : List Given → Given → Type 0
+IsBuilt earlier (Rules, r) = statements_in r ≡ heap_statements
+IsBuilt earlier (Catalogue, c) = (length (statements_in c) ≡ 2) × (s : SiteDef) × (t : TablePart) × HasTable (statements_in c) s t
+IsBuilt earlier (Query, q) =
+    (length (statements_in q) ≡ 1) × (s : SiteDef) × (t : TablePart) × HasTable (statements_in (catalogue_in earlier)) s t × SelectsFrom (statements_in q) t
 
--- this is the first statement, from 0, that has none, or that is wanting
-pub record StopsBuilt (earlier : List Given) (this : Given) (n : ℕ) : Type 0 where
-  pub before : (m : ℕ) → m < n → IsBuiltAt earlier this m
-  pub not : IsBuiltAt earlier this n → ⊥
-  pub some : (n < length (statements_in this.1)) ⊎ (n < count_of this.0)
+-- no statements begin like a catalogue, or a query, that has a reader
+abbrev pub NoSite : List MaybeEnded → Type 0
+NoSite statements = (s : SiteDef) → BeginsSite statements s → ⊥
 
--- the same, counted from 1
+abbrev pub NoTable : List MaybeEnded → Type 0
+NoTable statements = (s : SiteDef) (t : TablePart) → HasTable statements s t → ⊥
+
+abbrev pub NoSelection : List MaybeEnded → List MaybeEnded → Type 0
+NoSelection catalogue statements = (s : SiteDef) (t : TablePart) → HasTable catalogue s t → SelectsFrom statements t → ⊥
+
+-- The statement with this number, from 1, is the first that has none; it is one more than the last where more are wanted.
 abbrev pub IsUnbuiltAt : List Given → Given → ℕ → Type 0
-IsUnbuiltAt earlier this zero = ⊥
-IsUnbuiltAt earlier this (suc n) = StopsBuilt earlier this n
+IsUnbuiltAt earlier (Rules, r) (suc n) = DifferAt (statements_in r) heap_statements n
+IsUnbuiltAt earlier (Catalogue, c) (suc zero) = NoSite (statements_in c)
+IsUnbuiltAt earlier (Catalogue, c) (suc (suc zero)) = (s : SiteDef) × BeginsSite (statements_in c) s × NoTable (statements_in c)
+IsUnbuiltAt earlier (Catalogue, c) (suc (suc (suc zero))) = (s : SiteDef) × (t : TablePart) × HasTable (statements_in c) s t × (2 < length (statements_in c))
+IsUnbuiltAt earlier (Query, q) (suc zero) = NoSelection (statements_in (catalogue_in earlier)) (statements_in q)
+IsUnbuiltAt earlier (Query, q) (suc (suc zero)) =
+    (s : SiteDef) × (t : TablePart) × HasTable (statements_in (catalogue_in earlier)) s t × SelectsFrom (statements_in q) t × (1 < length (statements_in q))
+IsUnbuiltAt _ _ _ = ⊥
