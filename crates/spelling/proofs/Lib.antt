@@ -9,3 +9,5 @@ mod QueryLaws
 mod DerivationLaws
 mod Readers
 mod ValueReading
+mod ConditionLaws
+mod RuleLaws

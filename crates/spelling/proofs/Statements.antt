@@ -1,6 +1,6 @@
 -- A text has one list of statements, and what no two items begin alike is told apart in series.
 use Rattle.std.proofs.Common.{◌≡◌, ℕ, Bool, true, false, List, [], ◌∷◌, ◌++◌, map, refl, sym, ap, ◌∙◌, append_assoc, append-nil, subst, eq-eqb}
-use Rattle.spelling.specs.Lexemes.{Lexeme, IsStatements, MaybeEnded, ended, joined_by, Every, HasItem, statements_in, Word}
+use Rattle.spelling.specs.Lexemes.{Lexeme, IsStatements, MaybeEnded, ended, joined_by, Every, HasItem, statements_in, Word, Symbol}
 use Rattle.star_model.specs.Vectors.{same_numbers}
 
 -- a map that tells items apart tells lists of them apart
@@ -49,6 +49,15 @@ tails x r s e = cc
 
 pub apart : (a b : List ℕ) (r s : List Lexeme) → same_numbers a b ≡ false → Word a ∷ r ≡ Word b ∷ s → ⊥
 apart a b r s other e = differ a b other (heads (Word a) (Word b) r s e).0
+
+pub apart_symbols : (a b : List ℕ) (r s : List Lexeme) → same_numbers a b ≡ false → Symbol a ∷ r ≡ Symbol b ∷ s → ⊥
+apart_symbols a b r s other e =
+    let one : a ≡ b = symbols a b (heads (Symbol a) (Symbol b) r s e).0 in
+    let not_ : same_numbers a a ≡ false = subst (λ (l : List ℕ). same_numbers a l ≡ false) (sym one) other in
+    let is = same_self a in
+    cc where
+  symbols : (a b : List ℕ) → Symbol a ≡ Symbol b → a ≡ b
+  symbols a b e = cc
 
 -- Items, of which none is the beginning of another where what follows is of a kind, and a lexeme between two.
 module _ {A : Type 0} (spell : A → List Lexeme) (Ok : A → Type 0) (Follow : List Lexeme → Type 0) (between : Lexeme)
