@@ -205,3 +205,141 @@ module _ (scope : List (List ℕ)) where
       let one = same_binary f g xs ys x x' y y' r s h.0 k.0 (same_plan x y h.1 k.1) (same_plan x' y' h.2 k.2) e in
       ((λ i. expr.Binary (one.0 i) (one.1 i) (one.2 i) (one.3 i)), one.4)
   same_plan x y h k r s p q e = absurd (other_form (plan_form x) (plan_form y) refl (same_form scope x y r s h k e))
+
+-- ---- alternatives
+
+-- what stands behind the ranges begins with no `for`
+abbrev NoFor : List Lexeme → Type 0
+NoFor r = (t : List Lexeme) → r ≡ Word (codes "for") ∷ t → ⊥
+
+same_ranges : (scope : List (List ℕ)) (xs ys : List ForAll) (r s : List Lexeme) → AreRanges scope xs → AreRanges scope ys → NoFor r → NoFor s
+    → flat_map for_lexemes xs ++ r ≡ flat_map for_lexemes ys ++ s → (xs ≡ ys) × (r ≡ s)
+same_ranges scope [] [] r s h k m n e = (refl, e)
+same_ranges scope [] (y ∷ ys) r s h k m n e = absurd (m _ e)
+same_ranges scope (x ∷ xs) [] r s h k m n e = absurd (n _ (sym e))
+same_ranges scope (x ∷ xs) (y ∷ ys) r s h k m n e =
+    let for_ = tails _ _ _ e in
+    let name = heads _ _ _ _ for_ in
+    let names = first_word x.name y.name name.0 in
+    let in_ = tails _ _ _ name.1 in
+    let one = same_range scope x.range y.range (flat_map for_lexemes xs ++ r) (flat_map for_lexemes ys ++ s) h.1 k.1 (sym (append_assoc (range_lexemes x.range) (flat_map for_lexemes xs) r) ∙ in_ ∙ append_assoc (range_lexemes y.range) (flat_map for_lexemes ys) s) in
+    let scopes : scope ++ y.name ∷ [] ≡ scope ++ x.name ∷ [] = ap (λ n. scope ++ n ∷ []) (sym names) in
+    let more = same_ranges (scope ++ x.name ∷ []) xs ys r s h.2 (subst (λ l. AreRanges l ys) scopes k.2) m n one.1 in
+    ((λ i. record { name = names i; range = one.0 i } ∷ more.0 i), more.1)
+
+same_whens : (scope : List (List ℕ)) (x y : Option Condition) (r s : List Lexeme) → IsConditionIfAny scope x → IsConditionIfAny scope y
+    → when_lexemes x ++ Word (codes "give") ∷ r ≡ when_lexemes y ++ Word (codes "give") ∷ s → (x ≡ y) × (r ≡ s)
+same_whens scope None None r s h k e = (refl, tails _ _ _ e)
+same_whens scope None (Some d) r s h k e = absurd (apart (codes "give") (codes "when") _ _ refl e)
+same_whens scope (Some c) None r s h k e = absurd (apart (codes "when") (codes "give") _ _ refl e)
+same_whens scope (Some c) (Some d) r s h k e =
+    let one = same_condition scope c d h k (Word (codes "give") ∷ r) (Word (codes "give") ∷ s) tt tt (tails _ _ _ e) in
+    (ap (λ x. Some x) one.0, tails _ _ _ one.1)
+
+no_for : (x : Option Condition) (r : List Lexeme) → NoFor (when_lexemes x ++ Word (codes "give") ∷ r)
+no_for None r t e = apart (codes "give") (codes "for") _ _ refl e
+no_for (Some c) r t e = apart (codes "when") (codes "for") _ _ refl e
+
+behind_ranges : (a : Alternative) (r : List Lexeme) → alternative_lexemes a ++ r ≡ flat_map for_lexemes a.ranges ++ (when_lexemes a.condition ++ Word (codes "give") ∷ (plan_lexemes a.body ++ r))
+behind_ranges a r =
+    append_assoc (flat_map for_lexemes a.ranges) (when_lexemes a.condition ++ Word (codes "give") ∷ plan_lexemes a.body) r
+    ∙ ap (λ l. flat_map for_lexemes a.ranges ++ l) (append_assoc (when_lexemes a.condition) (Word (codes "give") ∷ plan_lexemes a.body) r)
+
+same_alternative : (parameters : List (List ℕ)) (a b : Alternative) (r s : List Lexeme) → IsAlternative parameters a → IsAlternative parameters b → Anything r → Anything s
+    → alternative_lexemes a ++ r ≡ alternative_lexemes b ++ s → (a ≡ b) × (r ≡ s)
+same_alternative parameters a b r s h k p q e =
+    let ranges = same_ranges parameters a.ranges b.ranges _ _ h.ranges k.ranges (no_for a.condition _) (no_for b.condition _) (sym (behind_ranges a r) ∙ e ∙ behind_ranges b s) in
+    let scopes : scope_of parameters b ≡ scope_of parameters a = ap (λ (l : List ForAll). parameters ++ map (λ (f : ForAll). f.name) l) (sym ranges.0) in
+    let conditions = same_whens (scope_of parameters a) a.condition b.condition _ _ h.condition (subst (λ l. IsConditionIfAny l b.condition) scopes k.condition) ranges.1 in
+    let bodies = same_plan (scope_of parameters a) a.body b.body h.body (subst (λ l. IsPlan l b.body) scopes k.body) r s tt tt conditions.1 in
+    ((λ i. record { ranges = ranges.0 i; condition = conditions.0 i; body = bodies.0 i }), bodies.1)
+
+-- ---- statements
+
+decode_kind : Lexeme → Kind
+decode_kind (Word bytes) =
+    found_in kind.Index ((codes "stream", kind.Stream) ∷ (codes "quants", kind.Quants) ∷ (codes "preds", kind.Preds) ∷ (codes "cols", kind.Cols) ∷ (codes "site", kind.Site) ∷ []) bytes
+decode_kind _ = kind.Index
+
+decoded_kind : (k : Kind) → k ≡ decode_kind (Word (kind_word k))
+unfolding decode_kind
+decoded_kind kind.Stream = refl
+decoded_kind kind.Quants = refl
+decoded_kind kind.Preds = refl
+decoded_kind kind.Cols = refl
+decoded_kind kind.Site = refl
+decoded_kind kind.Index = refl
+
+same_kind : (x y : Kind) → Word (kind_word x) ≡ Word (kind_word y) → x ≡ y
+same_kind x y e = decoded_kind x ∙ ap decode_kind e ∙ sym (decoded_kind y)
+
+same_parameter : (x y : Param) (r s : List Lexeme) → Unit {0} → Unit {0} → Unit {0} → Unit {0} → parameter_lexemes x ++ r ≡ parameter_lexemes y ++ s → (x ≡ y) × (r ≡ s)
+same_parameter x y r s _ _ _ _ e =
+    let name = heads _ _ _ _ e in
+    let names = first_word x.name y.name name.0 in
+    let kind_ = heads _ _ _ _ name.1 in
+    let kinds = same_kind x.kind y.kind kind_.0 in
+    ((λ i. record { name = names i; kind = kinds i }), kind_.1)
+
+same_stars : (s t : StarDef) → IsStar s → IsStar t → s.statement ≡ t.statement → star_lexemes s ≡ star_lexemes t → s ≡ t
+same_stars s t h k statements e =
+    let name = heads _ _ _ _ (tails _ _ _ e) in
+    let names = first_word s.name t.name name.0 in
+    let inner = sym (close_after (joined_by comma (map parameter_lexemes s.params)) (equals ∷ joined_by bar (map alternative_lexemes s.alternatives))) ∙ tails _ _ _ name.1
+      ∙ close_after (joined_by comma (map parameter_lexemes t.params)) (equals ∷ joined_by bar (map alternative_lexemes t.alternatives)) in
+    let params = series parameter_lexemes (λ _. Unit {0}) (λ _. Unit {0}) comma (λ _. tt) same_parameter s.params t.params _ _ h.some_parameters k.some_parameters (anything s.params) (anything t.params) (tt, no_comma _) (tt, no_comma _) inner in
+    let scopes : parameters_of t ≡ parameters_of s = ap (λ (l : List Param). map (λ (p : Param). p.name) l) (sym params.0) in
+    let rest = tails _ _ _ (tails _ _ _ params.1) in
+    let alternatives = series alternative_lexemes (IsAlternative (parameters_of s)) Anything bar (λ _. tt) (same_alternative (parameters_of s)) s.alternatives t.alternatives [] [] h.some_alternatives k.some_alternatives
+      h.alternatives (subst (λ l. Every (IsAlternative l) t.alternatives) scopes k.alternatives) (tt, nothing bar) (tt, nothing bar)
+      (append-nil (joined_by bar (map alternative_lexemes s.alternatives)) ∙ rest ∙ sym (append-nil (joined_by bar (map alternative_lexemes t.alternatives)))) in
+    λ i. record { statement = statements i; name = names i; params = params.0 i; alternatives = alternatives.0 i } where
+  nothing : (x : Lexeme) (t : List Lexeme) → [] ≡ x ∷ t → ⊥
+  nothing x t e = cc
+
+pub one_star : (n : ℕ) (lexemes : List Lexeme) (s t : StarDef) → SpellsStar n lexemes s → SpellsStar n lexemes t → s ≡ t
+one_star n lexemes s t p q = same_stars s t p.stands q.stands (p.number ∙ sym q.number) (sym p.are ∙ q.are)
+
+same_which : (x y : Which) → Word (which_word x) ≡ Word (which_word y) → x ≡ y
+same_which which.Cost which.Cost e = refl
+same_which which.Cost which.Rescan e = absurd (differ (codes "cost") (codes "rescan") refl e)
+same_which which.Rescan which.Cost e = absurd (differ (codes "rescan") (codes "cost") refl e)
+same_which which.Rescan which.Rescan e = refl
+
+pub one_formula_def : (n : ℕ) (lexemes : List Lexeme) (d f : FormulaDef) → SpellsFormulaDef n lexemes d → SpellsFormulaDef n lexemes f → d ≡ f
+one_formula_def n lexemes d f p q =
+    let first = heads _ _ _ _ (sym p.are ∙ q.are) in
+    let second = heads _ _ _ _ first.1 in
+    let rest : p.formula ≡ q.formula = tails _ _ _ second.1 in
+    let statements = p.number ∙ sym q.number in
+    let whiches = same_which d.which f.which first.0 in
+    let flavours = same_flavour_word d.flavour f.flavour second.0 in
+    let formulas = formula.one (map formula_word p.formula) d.formula f.formula p.spelled (subst (λ (l : List Lexeme). SpellsFormula l f.formula) (sym rest) q.spelled) in
+    λ i. record { statement = statements i; flavour = flavours i; which = whiches i; formula = formulas i }
+
+-- no statement defines a formula and a STAR
+not_both : (n : ℕ) (lexemes : List Lexeme) (d : FormulaDef) (s : StarDef) → SpellsFormulaDef n lexemes d → SpellsStar n lexemes s → ⊥
+not_both n lexemes d s p q = on_which d.which (heads _ _ _ _ (sym p.are ∙ q.are)).0 where
+  on_which : (x : Which) → Word (which_word x) ≡ Word (codes "star") → ⊥
+  on_which which.Cost e = differ (codes "cost") (codes "star") refl e
+  on_which which.Rescan e = differ (codes "rescan") (codes "star") refl e
+
+one_by_one : {n : ℕ} {statements : List (List Lexeme)} {fs : List FormulaDef} {ss : List StarDef} (gs : List FormulaDef) (ts : List StarDef)
+    → SpellsDefinitions n statements fs ss → SpellsDefinitions n statements gs ts → (fs ≡ gs) × (ss ≡ ts)
+one_by_one gs ts spec.none spec.none = (refl, refl)
+one_by_one _ ts (spec.formula p h) (spec.formula {formulas = gs} q k) =
+    let one = one_formula_def _ _ _ _ p q in
+    let more = one_by_one gs ts h k in
+    ((λ i. one i ∷ more.0 i), more.1)
+one_by_one gs _ (spec.formula p h) (spec.star q k) = absurd (not_both _ _ _ _ p q)
+one_by_one _ ts (spec.star p h) (spec.formula q k) = absurd (not_both _ _ _ _ q p)
+one_by_one gs _ (spec.star p h) (spec.star {stars = ts} q k) =
+    let one = one_star _ _ _ _ p q in
+    let more = one_by_one gs ts h k in
+    (more.0, λ i. one i ∷ more.1 i)
+
+pub one_rule_file : (text : List ℕ) (a b : RuleFile) → SpellsRules text a → SpellsRules text b → a ≡ b
+one_rule_file text a b p q =
+    let lists = one_list text p.statements q.statements p.are q.are in
+    let one = one_by_one b.formulas b.stars p.define (subst (λ l. SpellsDefinitions 1 l b.formulas b.stars) (sym lists) q.define) in
+    λ i. record { formulas = one.0 i; stars = one.1 i }
