@@ -1,8 +1,8 @@
 // Sets of numbers below 32, kept as masks.
 
 ghost use Rattle.std.specs.Prelude.{◌≡◌, ◌<◌, ◌^◌};
-ghost use Rattle.star_model.specs.Sets.{has, single, union, meet, minus, is_within, size, splits, PartFrom};
-ghost use Rattle.star_model.specs.Splits.{splits_left};
+ghost use Rattle.star_model.specs.Sets.{has, single, union, meet, minus, is_within, size, splits};
+ghost use Rattle.star_model.specs.Splits.{splits_left, PartFrom};
 
 use std::marker::Model;
 

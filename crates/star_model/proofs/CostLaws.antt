@@ -1,0 +1,46 @@
+-- A list of formulas with an entry more.
+use Rattle.std.proofs.Common.{◌≡◌, Bool, true, false, ◌&&◌, List, [], ◌∷◌, ◌++◌, refl, ap, sym, ◌∙◌, if◌then◌else◌}
+use Rattle.std.specs.Prelude.{Option, Some, None}
+use Rattle.std.proofs.lemmas.Bool.{eqb-true, eq-eqb}
+use Rattle.star_model.proofs.BoolLaws.{both, and}
+use Rattle.star_model.specs.Costs.{row_of, same_flavour, same_which, formula_of}
+use Rattle.star_model.specs.declared.costs.CostEntry.{CostEntry}
+use Rattle.star_model.specs.declared.formula.Formula.{Formula}
+use Rattle.star_model.specs.declared.rules.Flavour.{Flavour}
+use Rattle.star_model.specs.declared.rules.Which.{Which}
+use Rattle.star_model.specs.declared.rules.Which.TheVariants.{Cost, Rescan}
+
+flavours_meet : (f g h : Flavour) → same_flavour f h ≡ true → same_flavour g h ≡ true → same_flavour f g ≡ true
+flavours_meet f g h p q = eq-eqb _ _ (eqb-true (row_of f) (row_of h) p ∙ sym (eqb-true (row_of g) (row_of h) q))
+
+whichs_meet : (v w x : Which) → same_which v x ≡ true → same_which w x ≡ true → same_which v w ≡ true
+whichs_meet Cost Cost x p q = refl
+whichs_meet Rescan Rescan x p q = refl
+whichs_meet Cost Rescan Cost p q = cc
+whichs_meet Cost Rescan Rescan p q = cc
+whichs_meet Rescan Cost Cost p q = cc
+whichs_meet Rescan Cost Rescan p q = cc
+
+either_first : (c d : Bool) (x y z : Option Formula) → (c ≡ true → d ≡ true → ⊥) → (if c then x else if d then y else z) ≡ (if d then y else if c then x else z)
+either_first true true x y z no_ = absurd (no_ refl refl)
+either_first true false x y z no_ = refl
+either_first false d x y z no_ = refl
+
+not_here : (c : Bool) (x : Formula) (o : Option Formula) → (if c then Some x else o) ≡ None → (c ≡ false) × (o ≡ None)
+not_here true x o h = cc
+not_here false x o h = (refl, h)
+
+pub formula_of-push : (costs : List CostEntry) (e : CostEntry) (f : Flavour) (w : Which) → formula_of costs e.flavour e.which ≡ None
+    → formula_of (costs ++ e ∷ []) f w ≡ (if same_flavour e.flavour f && same_which e.which w then Some e.formula else formula_of costs f w)
+unfolding formula_of
+formula_of-push [] e f w h = refl
+formula_of-push (x ∷ xs) e f w h =
+    let a = not_here (same_flavour x.flavour e.flavour && same_which x.which e.which) x.formula (formula_of xs e.flavour e.which) h in
+    ap (λ o. if same_flavour x.flavour f && same_which x.which w then Some x.formula else o) (formula_of-push xs e f w a.1)
+    ∙ either_first (same_flavour x.flavour f && same_which x.which w) (same_flavour e.flavour f && same_which e.which w) _ _ _ (λ p q. differ a.0 p q)
+  where
+    differ : (same_flavour x.flavour e.flavour && same_which x.which e.which) ≡ false → (same_flavour x.flavour f && same_which x.which w) ≡ true → (same_flavour e.flavour f && same_which e.which w) ≡ true → ⊥
+    differ no_ p q =
+        let b = both (same_flavour x.flavour f) (same_which x.which w) p in let c = both (same_flavour e.flavour f) (same_which e.which w) q in
+        let yes_ = and _ _ (flavours_meet x.flavour e.flavour f b.0 c.0) (whichs_meet x.which e.which w b.1 c.1) in
+        cc

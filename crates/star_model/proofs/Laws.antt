@@ -1,0 +1,56 @@
+-- The laws that other crates may cite. Each is the clause of a function of the module `theorems`.
+use Rattle.std.proofs.Common.{◌≡◌, ℕ, ◌<◌, Bool, true, false, not, ◌||◌, refl, ◌↔◌}
+use Rattle.std.specs.Prelude.{Some}
+pub use Rattle.star_model.proofs.NumberLaws.{sum-cut, difference-cut, product-cut, quotient-cut, sum-le, difference-le, product-le, quotient-le, sum-exact, difference-exact, product-exact, quotient-exact, quotient_enough, quotient_least}
+pub use Rattle.star_model.proofs.SetLaws.{has-union, has-meet, has-minus, has-single, has-set_of, has-above, same_set, union-lt, meet-lt, minus-lt, single-lt, set_of-lt}
+pub use Rattle.star_model.proofs.SplitLaws.{split_once, split_only}
+pub use Rattle.star_model.proofs.MonotoneLaws.{monotone}
+pub use Rattle.star_model.proofs.OffendLaws.{passes_where}
+pub use Rattle.star_model.proofs.BetterLaws.{better_same, better_trans, better_both}
+pub use Rattle.star_model.proofs.ExchangeLaws.{exchangeable}
+pub use Rattle.star_model.proofs.ChainLaws.{step_card, vector_card, chains_exchange, better_satisfies}
+pub use Rattle.star_model.proofs.KindLaws.{means}
+pub use Rattle.star_model.proofs.CostLaws.{formula_of-push}
+use Rattle.star_model.proofs.SetLaws.{within-has, has-within}
+use Rattle.star_model.proofs.JudgeLaws.{judged, valid_from, valid_to, vector_from, vector_to, root_from, root_to}
+use Rattle.star_model.specs.Sets.{has, is_within}
+use Rattle.star_model.specs.Plans.{vector}
+use Rattle.star_model.specs.Costs.{costs_of}
+use Rattle.star_model.specs.Expected.{Expected}
+use Rattle.star_model.specs.Derivations.{plan_of, is_valid, HasVector, IsRoot}
+use Rattle.star_model.specs.Judging.{Vector, judge, judge_root}
+use Rattle.star_model.specs.declared.query.Query.{Query}
+use Rattle.star_model.specs.declared.plans.Props.{Props}
+use Rattle.star_model.specs.declared.plans.Plan.{Plan}
+use Rattle.star_model.specs.declared.rules.RuleFile.{RuleFile}
+use Rattle.star_model.specs.declared.derivations.Deriv.{Deriv}
+
+-- each member of one is a member of the other
+pub within-members : (s t : ℕ) → (is_within s t ≡ true) ↔ ((n : ℕ) → n < 32 → has s n ≡ true → has t n ≡ true)
+within-members s t = (
+  (λ h n l k. then_so (has s n) (has t n) (within-has s t n l h) k),
+  (λ h. has-within s t (λ n l. so_then (has s n) (has t n) (h n l))),
+)
+  where
+    then_so : (b c : Bool) → (not b || c) ≡ true → b ≡ true → c ≡ true
+    then_so true c h k = h
+    then_so false c h k = cc
+
+    so_then : (b c : Bool) → (b ≡ true → c ≡ true) → (not b || c) ≡ true
+    so_then true c h = h refl
+    so_then false c h = refl
+
+-- ---- derivations
+
+pub judges_plan : (q : Query) (rules : RuleFile) (d : Deriv) (x : Expected) (n : ℕ) (v : Props) → judge q rules d x n ≡ Vector v
+    → (p : Plan) × (plan_of q rules d x ≡ Some p) × (vector q (costs_of rules) p ≡ Some v)
+judges_plan q rules d x n v h = judged q rules d x n v h
+
+pub judges_vector : (q : Query) (rules : RuleFile) (d : Deriv) (x : Expected) (n : ℕ) (v : Props) → (judge q rules d x n ≡ Vector v) ↔ HasVector q rules d x v
+judges_vector q rules d x n v = (vector_from q rules d x n v, vector_to q rules d x n v)
+
+pub judges_valid : (q : Query) (rules : RuleFile) (d : Deriv) (x : Expected) (n : ℕ) → (is_valid q rules d x ≡ true) ↔ ((v : Props) × (judge q rules d x n ≡ Vector v))
+judges_valid q rules d x n = (valid_to q rules d x n, (λ h. valid_from q rules d x n h.0 h.1))
+
+pub judges_root : (q : Query) (rules : RuleFile) (tree : Deriv) (v : Props) → (judge_root q rules tree ≡ Vector v) ↔ IsRoot q rules tree v
+judges_root q rules tree v = (root_from q rules tree v, root_to q rules tree v)

@@ -1,0 +1,141 @@
+// The laws of the definitions, each the clause of a function that does nothing.
+
+ghost use Rattle.std.specs.Prelude.{◌≡◌, ℕ, ◌<◌, ◌≤◌, ◌+◌, ◌-◌, ◌*◌, ◌^◌, max, Bool, true, false, ◌&&◌, ◌||◌, not, nat_eq, ◌↔◌, List as Seq, [], ◌∷◌, ◌++◌, Some, None, if◌then◌else◌};
+ghost use Rattle.std.specs.List.{count_by};
+ghost use Rattle.star_model.specs.Numbers.{top, cut_sum, cut_difference, cut_product, cut_quotient, quotient_up};
+ghost use Rattle.star_model.specs.Sets.{has, set_of, single, union, meet, minus, is_within, splits, is_pair, IsSplit};
+ghost use Rattle.star_model.specs.Monotone.{passes, first_offending, IsMonotone};
+ghost use Rattle.star_model.specs.Costs.{formula_of, costs_of, same_flavour, same_which};
+ghost use Rattle.star_model.specs.Vectors.{is_better, satisfies};
+ghost use Rattle.star_model.specs.Exchange.{HasCard, IsExchangeable, ChainsAreExchangeable};
+ghost use Rattle.star_model.specs.Kinds.{MeansItsKind};
+ghost use Rattle.star_model.specs.Meaning.{meaning};
+ghost use Rattle.star_model.specs.Plans.{vector};
+ghost use Rattle.star_model.specs.Expected.{Expected};
+ghost use Rattle.star_model.specs.Derivations.{plan_of, is_valid, HasVector, IsRoot};
+ghost use Rattle.star_model.specs.Judging.{Vector, judge, judge_root};
+ghost use Rattle.star_model.specs.declared.costs.CostEntry.{CostEntry};
+ghost use Rattle.star_model.specs.declared.formula.Formula.{Formula};
+ghost use Rattle.star_model.specs.declared.query.Query.{Query};
+ghost use Rattle.star_model.specs.declared.plans.Plan.{Plan};
+ghost use Rattle.star_model.specs.declared.plans.Props.{Props};
+ghost use Rattle.star_model.specs.declared.plans.Require.{Require};
+ghost use Rattle.star_model.specs.declared.rules.Flavour.{Flavour};
+ghost use Rattle.star_model.specs.declared.rules.Which.{Which};
+ghost use Rattle.star_model.specs.declared.rules.RuleFile.{RuleFile};
+ghost use Rattle.star_model.specs.declared.derivations.Deriv.{Deriv};
+
+/// No result passes 10^18.
+pub fn results_are_cut()
+    ensures sum { (a b : ℕ) → cut_sum a b ≤ top }
+    ensures difference { (a b : ℕ) → cut_difference a b ≤ top }
+    ensures product { (a b : ℕ) → cut_product a b ≤ top }
+    ensures quotient { (a b : ℕ) → cut_quotient a b ≤ top }
+{}
+
+/// A result that fits is not changed.
+pub fn results_that_fit_are_exact()
+    ensures sum { (a b : ℕ) → a + b ≤ top → cut_sum a b ≡ a + b }
+    ensures difference { (a b : ℕ) → a ≤ top → cut_difference a b ≡ a - b }
+    ensures product { (a b : ℕ) → a * b ≤ top → cut_product a b ≡ a * b }
+    ensures quotient { (a b : ℕ) → quotient_up a b ≤ top → cut_quotient a b ≡ quotient_up a b }
+{}
+
+/// A result rises with its first part and, where it is a sum or a product, with its second; a difference or a quotient falls
+/// with its second.
+pub fn results_rise_and_fall()
+    ensures sum { (a b c d : ℕ) → a ≤ c → b ≤ d → cut_sum a b ≤ cut_sum c d }
+    ensures difference { (a b c d : ℕ) → a ≤ c → d ≤ b → cut_difference a b ≤ cut_difference c d }
+    ensures product { (a b c d : ℕ) → a ≤ c → b ≤ d → cut_product a b ≤ cut_product c d }
+    ensures quotient { (a b c d : ℕ) → a ≤ c → d ≤ b → cut_quotient a b ≤ cut_quotient c d }
+{}
+
+/// A quotient is the least whole number that, times the divisor, is not below the dividend. A divisor of 0 counts as 1.
+pub fn quotients_round_up()
+    ensures enough { (a b : ℕ) → a ≤ quotient_up a b * max 1 b }
+    ensures least { (a b m : ℕ) → a ≤ m * max 1 b → quotient_up a b ≤ m }
+{}
+
+/// What is a member of a set that an operation gives.
+pub fn sets_go_by_members()
+    ensures union { (s t n : ℕ) → has (union s t) n ≡ (has s n || has t n) }
+    ensures meet { (s t n : ℕ) → has (meet s t) n ≡ (has s n && has t n) }
+    ensures minus { (s t n : ℕ) → t < 2 ^ 32 → n < 32 → has (minus s t) n ≡ (has s n && not (has t n)) }
+    ensures single { (k n : ℕ) → has (single k) n ≡ nat_eq n k }
+    ensures set_of { (p : ℕ → Bool) (n : ℕ) → n < 32 → has (set_of p) n ≡ p n }
+    ensures beyond { (s n : ℕ) → s < 2 ^ 32 → 32 ≤ n → has s n ≡ false }
+    ensures within { (s t : ℕ) → (is_within s t ≡ true) ↔ ((n : ℕ) → n < 32 → has s n ≡ true → has t n ≡ true) }
+
+    // Sets with the same members are one.
+    ensures same { (s t : ℕ) → s < 2 ^ 32 → t < 2 ^ 32 → ((n : ℕ) → n < 32 → has s n ≡ has t n) → s ≡ t }
+{}
+
+/// A set has no member from 32 on: it is a number of 32 bits.
+pub fn sets_fit()
+    ensures union { (s t : ℕ) → s < 2 ^ 32 → t < 2 ^ 32 → union s t < 2 ^ 32 }
+    ensures meet { (s t : ℕ) → s < 2 ^ 32 → meet s t < 2 ^ 32 }
+    ensures minus { (s t : ℕ) → s < 2 ^ 32 → minus s t < 2 ^ 32 }
+    ensures single { (k : ℕ) → k < 32 → single k < 2 ^ 32 }
+    ensures set_of { (p : ℕ → Bool) → set_of p < 2 ^ 32 }
+{}
+
+/// The list of splits has each ordered pair of nonempty disjoint sets with that union once, and no other pair.
+pub fn each_split_comes_once()
+    ensures once { (s a b : ℕ) → s < 2 ^ 32 → IsSplit s a b → count_by (is_pair a b) (splits s) ≡ 1 }
+    ensures only { (s a b : ℕ) → s < 2 ^ 32 → 0 < count_by (is_pair a b) (splits s) → IsSplit s a b }
+{}
+
+/// A formula that passes the monotone check doesn't fall where no cost of an input falls.
+pub fn passing_is_monotone()
+    ensures { IsMonotone }
+{}
+
+/// A formula passes exactly where no node offends.
+pub fn passing_is_without_offence()
+    ensures { (f : Formula) → (passes f ≡ true) ↔ (first_offending f ≡ None) }
+{}
+
+/// With a further entry, whose operator and cost have no formula yet, a list of formulas has its formula there, and elsewhere
+/// what it had.
+pub fn entries_add_formulas()
+    ensures { (costs : Seq CostEntry) (e : CostEntry) (f : Flavour) (w : Which) → formula_of costs e.flavour e.which ≡ None
+        → formula_of (costs ++ e ∷ []) f w ≡ (if same_flavour e.flavour f && same_which e.which w then Some e.formula else formula_of costs f w) }
+{}
+
+/// Better than or equal to is a partial order of vectors without their numbers of rows.
+pub fn better_is_an_order()
+    ensures reflexive { (v : Props) → is_better v v ≡ true }
+    ensures transitive { (u v w : Props) → is_better u v ≡ true → is_better v w ≡ true → is_better u w ≡ true }
+    ensures antisymmetric { (v w : Props) → is_better v w ≡ true → is_better w v ≡ true → record v { card = w.card } ≡ w }
+{}
+
+/// In one query the tables and predicates of a plan fix its number of rows.
+pub fn plans_have_the_estimate()
+    ensures { (q : Query) (costs : Seq CostEntry) (p : Plan) (v : Props) → vector q costs p ≡ Some v → HasCard q v }
+{}
+
+/// With better inputs an applicable operator stays applicable, and its result is better; likewise a chain of Glue; and a better
+/// vector satisfies what the other does.
+pub fn better_inputs_serve()
+    ensures operators { IsExchangeable }
+    ensures chains { ChainsAreExchangeable }
+    ensures satisfying { (u v : Props) (r : Require) → is_better u v ≡ true → satisfies v r ≡ true → satisfies u r ≡ true }
+{}
+
+/// A well-kinded expression means a value of its kind.
+pub fn values_have_their_kinds()
+    ensures { (q : Query) → MeansItsKind (meaning q) }
+{}
+
+/// The walk over a derivation finds the vector of a valid one, which is that of its plan, and none of another.
+pub fn judging_finds_valid_derivations()
+    ensures valid { (q : Query) (rules : RuleFile) (d : Deriv) (x : Expected) (n : ℕ) → (is_valid q rules d x ≡ true) ↔ ((v : Props) × (judge q rules d x n ≡ Vector v)) }
+    ensures vector { (q : Query) (rules : RuleFile) (d : Deriv) (x : Expected) (n : ℕ) (v : Props) → (judge q rules d x n ≡ Vector v) ↔ HasVector q rules d x v }
+    ensures plan { (q : Query) (rules : RuleFile) (d : Deriv) (x : Expected) (n : ℕ) (v : Props) → judge q rules d x n ≡ Vector v
+        → (p : Plan) × (plan_of q rules d x ≡ Some p) × (vector q (costs_of rules) p ≡ Some v) }
+{}
+
+/// Of a whole tree it finds the vector exactly where the tree is a root derivation.
+pub fn judging_finds_root_derivations()
+    ensures { (q : Query) (rules : RuleFile) (tree : Deriv) (v : Props) → (judge_root q rules tree ≡ Vector v) ↔ IsRoot q rules tree v }
+{}
