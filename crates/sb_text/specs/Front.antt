@@ -9,11 +9,15 @@ use Rattle.sb_text.specs.Forms.{IsToken}
 abbrev pub run : (ℕ → Bool) → List ℕ → ℕ
 run test bytes = length (take_while test bytes)
 
+-- all but LF
+abbrev pub in_comment : ℕ → Bool
+in_comment b = not (b == 10)
+
 -- one byte of white space, or a comment up to the next LF, or nothing
 abbrev pub gap_at : List ℕ → ℕ
 gap_at [] = 0
 gap_at (b ∷ rest) =
-    if is_blank b then 1 else if b == 35 then run (λ c. not (c == 10)) rest + 1 else 0
+    if is_blank b then 1 else if b == 35 then run in_comment rest + 1 else 0
 
 abbrev pub symbol_len : ℕ → List ℕ → Option ℕ
 symbol_len b [] = if is_symbol b then Some 1 else None
