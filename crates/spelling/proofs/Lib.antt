@@ -10,4 +10,6 @@ mod DerivationLaws
 mod Readers
 mod ValueReading
 mod ConditionLaws
+mod FormulaLaws
 mod RuleLaws
+pub mod Laws

@@ -2,4 +2,5 @@
 //! derivations, catalogues, queries and rule files, and the laws that one text spells at most one tree.
 #![tactic(auto)]
 
+pub mod theorems;
 pub mod words;
