@@ -1,13 +1,12 @@
 -- No condition, and no range, of the rule language is the beginning of another.
-use Rattle.std.proofs.Common.{◌≡◌, ℕ, Bool, true, false, List, [], ◌∷◌, ◌++◌, Option, Some, None, codes, refl, sym, ap, ◌∙◌, subst, append_assoc}
-use Rattle.star_model.specs.Vectors.{same_numbers}
+use Rattle.std.proofs.Common.{◌≡◌, ℕ, List, [], ◌∷◌, ◌++◌, codes, refl, sym, ap, ◌∙◌, append_assoc}
 use Rattle.star_model.specs.declared.rules.ValueExpr.{ValueExpr}
 use Rattle.star_model.specs.declared.rules.Condition.{Condition}
 use Rattle.star_model.specs.declared.rules.Condition.TheVariants as plain
 use Rattle.star_model.specs.ConditionCases as condition
 use Rattle.star_model.specs.declared.rules.Range.{Range}
 use Rattle.star_model.specs.declared.rules.Range.TheVariants as range
-use Rattle.spelling.specs.Lexemes.{Lexeme, Word, left_bracket, right_bracket, comma, joined_by, bracketed}
+use Rattle.spelling.specs.Lexemes.{Lexeme, Word, right_bracket, comma}
 use Rattle.spelling.specs.Values.{value_lexemes, IsValue, call, condition_lexemes, IsCondition, range_lexemes, IsRange}
 use Rattle.spelling.proofs.Statements.{heads, tails, differ}
 use Rattle.spelling.proofs.ValueReading.{NoSquare, same_value}
@@ -33,8 +32,8 @@ two_in spell Follow x y x' y' follows commas apart apart' word r s e =
     let one = apart (comma ∷ (spell y ++ right_bracket ∷ r)) (comma ∷ (spell y' ++ right_bracket ∷ s)) (commas _) (commas _) (sym (ends (spell x) (spell y) r) ∙ inner ∙ ends (spell x') (spell y') s) in
     let two = apart' (right_bracket ∷ r) (right_bracket ∷ s) (follows r) (follows s) (tails _ _ _ one.1) in
     (one.0, two.0, tails _ _ _ two.1) where
-  ends : (a b rest : List Lexeme) → ((a ++ comma ∷ b) ++ right_bracket ∷ []) ++ rest ≡ a ++ comma ∷ (b ++ right_bracket ∷ rest)
-  ends a b rest = append_assoc (a ++ comma ∷ b) (right_bracket ∷ []) rest ∙ append_assoc a (comma ∷ b) (right_bracket ∷ rest)
+      ends : (a b rest : List Lexeme) → ((a ++ comma ∷ b) ++ right_bracket ∷ []) ++ rest ≡ a ++ comma ∷ (b ++ right_bracket ∷ rest)
+      ends a b rest = append_assoc (a ++ comma ∷ b) (right_bracket ∷ []) rest ∙ append_assoc a (comma ∷ b) (right_bracket ∷ rest)
 
 abbrev pub Anything : List Lexeme → Type 0
 Anything r = Unit {0}

@@ -1,5 +1,5 @@
 -- One text spells one derivation.
-use Rattle.std.proofs.Common.{◌≡◌, ℕ, zero, suc, ◌+◌, ◌^◌, ◌<◌, ◌≤◌, Bool, true, false, nat_eq, cond, List, [], ◌∷◌, ◌++◌, map, filter, Option, Some, None, codes, refl, sym, ap, ◌∙◌, subst, arith, append_assoc, append-nil, eq-or-lt_of_le, inl, inr}
+use Rattle.std.proofs.Common.{◌≡◌, ℕ, zero, suc, ◌+◌, ◌<◌, ◌≤◌, Bool, true, false, cond, List, [], ◌∷◌, ◌++◌, map, filter, Option, Some, None, codes, refl, sym, ap, ◌∙◌, subst, arith, append_assoc, append-nil, eq-or-lt_of_le, inl, inr}
 use Rattle.std.specs.List.{range_with_len}
 use Rattle.star_model.proofs.Laws.{same_set}
 use Rattle.star_model.specs.Sets.{places, has, members}
@@ -11,7 +11,7 @@ use Rattle.star_model.specs.declared.rules.Flavour.TheVariants as flavour
 use Rattle.star_model.specs.declared.derivations.Deriv.{Deriv}
 use Rattle.star_model.specs.declared.derivations.Deriv.TheVariants as made
 use Rattle.star_model.specs.DerivCases as d
-use Rattle.spelling.specs.Lexemes.{Lexeme, Word, Number, left_brace, right_brace, comma, joined_by, Every}
+use Rattle.spelling.specs.Lexemes.{Lexeme, Word, Number, left_brace, right_brace, comma, joined_by}
 use Rattle.spelling.specs.Names.{found_in}
 use Rattle.spelling.specs.Flavours.{flavour_word, inputs_of}
 use Rattle.spelling.specs.Derivations.{Step, Glue, Goal, Reference, Operator, glue_word, set_lexemes, split_lexemes, statement_of, IsMask, AreMasks, IsStep, steps, statements_of, HasInputs, IsWritable, SpellsDerivation}
@@ -92,7 +92,7 @@ same_sets : (s t : ℕ) (q r : List Lexeme) → IsMask s → IsMask t → set_le
 same_sets s t q r p o e =
     let inner : (joined_by comma (map number (members s)) ++ right_brace ∷ []) ++ q ≡ (joined_by comma (map number (members t)) ++ right_brace ∷ []) ++ r = tails left_brace _ _ e in
     let one = same_numbers_before (members s) (members t) q r
-      (sym (append_assoc (joined_by comma (map number (members s))) (right_brace ∷ []) q) ∙ inner ∙ append_assoc (joined_by comma (map number (members t))) (right_brace ∷ []) r) in
+    (sym (append_assoc (joined_by comma (map number (members s))) (right_brace ∷ []) q) ∙ inner ∙ append_assoc (joined_by comma (map number (members t))) (right_brace ∷ []) r) in
     (same_members s t p o one.0, one.1)
 
 -- ---- statements
@@ -135,8 +135,8 @@ decode_flavour : Lexeme → Flavour
 decode_flavour (Word bytes) =
     found_in flavour.JoinHash
     ((codes "ACCESS_HEAP", flavour.AccessHeap) ∷ (codes "ACCESS_INDEX", flavour.AccessIndex) ∷ (codes "GET", flavour.Get) ∷ (codes "FILTER", flavour.Filter)
-      ∷ (codes "SORT", flavour.Sort) ∷ (codes "STORE", flavour.Store) ∷ (codes "SHIP", flavour.Ship) ∷ (codes "PROBE", flavour.Probe)
-      ∷ (codes "JOIN_NL", flavour.JoinNl) ∷ (codes "JOIN_MERGE", flavour.JoinMerge) ∷ []) bytes
+    ∷ (codes "SORT", flavour.Sort) ∷ (codes "STORE", flavour.Store) ∷ (codes "SHIP", flavour.Ship) ∷ (codes "PROBE", flavour.Probe)
+    ∷ (codes "JOIN_NL", flavour.JoinNl) ∷ (codes "JOIN_MERGE", flavour.JoinMerge) ∷ []) bytes
 decode_flavour _ = flavour.JoinHash
 
 decoded_flavour : (f : Flavour) → f ≡ decode_flavour (Word (flavour_word f))

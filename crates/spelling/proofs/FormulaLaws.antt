@@ -1,10 +1,8 @@
 -- The fewest brackets spell a formula.
-use Rattle.std.proofs.Common.{◌≡◌, List, [], ◌∷◌, ◌++◌, map, Bool, true, false, refl, sym, ap, ◌∙◌, subst}
+use Rattle.std.proofs.Common.{◌≡◌, List, [], ◌∷◌, ◌++◌, map, refl, sym, subst}
 use Rattle.star_model.specs.declared.formula.Formula.{Formula}
-use Rattle.star_model.specs.declared.formula.Formula.TheVariants as f
 use Rattle.star_model.specs.declared.formula.Test.TheVariants as test
 use Rattle.star_model.specs.declared.formula.Var.TheVariants as var
-use Rattle.star_model.specs.FormulaCases.{Add, Sub, Mul, Div, Min, Max, If}
 use Rattle.spelling.specs.declared.words.FormulaWord.{FormulaWord}
 use Rattle.spelling.specs.declared.words.FormulaWord.TheVariants as w
 use Rattle.spelling.specs.Lexemes.{Lexeme}

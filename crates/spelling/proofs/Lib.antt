@@ -12,4 +12,5 @@ mod ValueReading
 mod ConditionLaws
 mod FormulaLaws
 mod RuleLaws
+mod Thin
 pub mod Laws

@@ -1,7 +1,5 @@
 -- One text spells one rule file.
-use Rattle.std.proofs.Common.{◌≡◌, ℕ, zero, suc, ◌+◌, ◌≤◌, ◌<◌, Bool, true, false, List, [], ◌∷◌, ◌++◌, map, length, Option, Some, None, codes, refl, sym, ap, ◌∙◌, subst, arith, append_assoc, append-nil, flat_map, nat_eq, eq-eqb}
-use Rattle.star_model.specs.Kinds.{argument_kinds}
-use Rattle.star_model.specs.Vectors.{same_numbers}
+use Rattle.std.proofs.Common.{◌≡◌, ℕ, ◌<◌, true, false, List, [], ◌∷◌, ◌++◌, map, length, Option, Some, None, codes, refl, sym, ap, ◌∙◌, subst, arith, append_assoc, append-nil, flat_map, nat_eq, eq-eqb}
 use Rattle.star_model.specs.PlanExprCases as expr
 use Rattle.star_model.specs.declared.rules.PlanExpr.{PlanExpr}
 use Rattle.star_model.specs.declared.rules.PlanExpr.TheVariants as plain
@@ -19,14 +17,14 @@ use Rattle.star_model.specs.declared.rules.Param.{Param}
 use Rattle.star_model.specs.declared.rules.StarDef.{StarDef}
 use Rattle.star_model.specs.declared.rules.FormulaDef.{FormulaDef}
 use Rattle.star_model.specs.declared.rules.RuleFile.{RuleFile}
-use Rattle.spelling.specs.Lexemes.{Lexeme, Word, comma, bar, equals, left_bracket, right_bracket, joined_by, bracketed, Every, HasItem}
+use Rattle.spelling.specs.Lexemes.{Lexeme, Word, comma, bar, equals, right_bracket, joined_by, Every, HasItem}
 use Rattle.spelling.specs.Names.{found_in}
 use Rattle.spelling.specs.Flavours.{flavour_word, inputs_of, which_word, kind_word}
 use Rattle.spelling.specs.Formulas.{SpellsFormula, formula_word}
-use Rattle.spelling.specs.Values.{IsName, call, value_lexemes, IsValue, condition_lexemes, range_lexemes}
+use Rattle.spelling.specs.Values.{IsName, call, value_lexemes, IsValue, range_lexemes}
 use Rattle.spelling.specs.Rules as spec
 use Rattle.spelling.specs.Rules.{plan_lexemes, arguments_of, IsOperator, IsPlan, for_lexemes, when_lexemes, alternative_lexemes, AreRanges, IsConditionIfAny, scope_of, IsAlternative, parameter_lexemes, star_lexemes, parameters_of, IsStar, SpellsStar, SpellsFormulaDef, SpellsDefinitions, SpellsRules}
-use Rattle.spelling.proofs.Statements.{one_list, same_lists, series, anything, heads, tails, differ, apart, apart_symbols}
+use Rattle.spelling.proofs.Statements.{one_list, series, anything, heads, tails, differ, apart, apart_symbols}
 use Rattle.spelling.proofs.Readers.{not_found}
 use Rattle.spelling.proofs.ValueReading.{NoSquare, same_value}
 use Rattle.spelling.proofs.ConditionLaws.{Apart, Anything, two_values, same_range, same_condition}
@@ -74,7 +72,7 @@ no_comma r t e = apart_symbols (codes ")") (codes ",") r t refl e
 plan_words : List (List ℕ × ℕ)
 plan_words =
     (codes "Glue", 3) ∷ (codes "ACCESS_HEAP", 0) ∷ (codes "ACCESS_INDEX", 0) ∷ (codes "GET", 1) ∷ (codes "FILTER", 1) ∷ (codes "SORT", 1) ∷ (codes "STORE", 1)
-      ∷ (codes "SHIP", 1) ∷ (codes "PROBE", 1) ∷ (codes "JOIN_NL", 2) ∷ (codes "JOIN_MERGE", 2) ∷ (codes "JOIN_HASH", 2) ∷ []
+    ∷ (codes "SHIP", 1) ∷ (codes "PROBE", 1) ∷ (codes "JOIN_NL", 2) ∷ (codes "JOIN_MERGE", 2) ∷ (codes "JOIN_HASH", 2) ∷ []
 
 form_of_word : List ℕ → ℕ
 form_of_word word = found_in 4 plan_words word
@@ -164,9 +162,9 @@ module _ (scope : List (List ℕ)) where
       let one = apart_ (comma ∷ (values xs ++ right_bracket ∷ r)) (comma ∷ (values ys ++ right_bracket ∷ s)) tt tt inner in
       let two = same_arguments xs ys r s h k p.values q.values (tails _ _ _ one.1) in
       (same_flavour_word f g word.0, two.0, one.0, two.1) where
-    unary_ends : (a : List Lexeme) (xs : List ValueExpr) (r : List Lexeme) → HasItem xs → (joined_by comma (a ∷ map value_lexemes xs) ++ right_bracket ∷ []) ++ r ≡ a ++ comma ∷ (values xs ++ right_bracket ∷ r)
-    unary_ends a xs r h =
-        ap (λ l. (l ++ right_bracket ∷ []) ++ r) (behind_one a xs h) ∙ close_after (a ++ comma ∷ values xs) r ∙ append_assoc a (comma ∷ values xs) (right_bracket ∷ r)
+        unary_ends : (a : List Lexeme) (xs : List ValueExpr) (r : List Lexeme) → HasItem xs → (joined_by comma (a ∷ map value_lexemes xs) ++ right_bracket ∷ []) ++ r ≡ a ++ comma ∷ (values xs ++ right_bracket ∷ r)
+        unary_ends a xs r h =
+            ap (λ l. (l ++ right_bracket ∷ []) ++ r) (behind_one a xs h) ∙ close_after (a ++ comma ∷ values xs) r ∙ append_assoc a (comma ∷ values xs) (right_bracket ∷ r)
 
   same_binary : (f g : Flavour) (xs ys : List ValueExpr) (x x' y y' : PlanExpr) (r s : List Lexeme) → IsOperator scope 2 f xs → IsOperator scope 2 g ys → Apart plan_lexemes Anything x y → Apart plan_lexemes Anything x' y'
       → call (flavour_word f) (plan_lexemes x ∷ plan_lexemes x' ∷ map value_lexemes xs) ++ r ≡ call (flavour_word g) (plan_lexemes y ∷ plan_lexemes y' ∷ map value_lexemes ys) ++ s
@@ -180,11 +178,11 @@ module _ (scope : List (List ℕ)) where
       let two = apart' (comma ∷ (values xs ++ right_bracket ∷ r)) (comma ∷ (values ys ++ right_bracket ∷ s)) tt tt (tails _ _ _ one.1) in
       let three = same_arguments xs ys r s h k p.values q.values (tails _ _ _ two.1) in
       (same_flavour_word f g word.0, three.0, one.0, two.0, three.1) where
-    binary_ends : (a b : List Lexeme) (xs : List ValueExpr) (r : List Lexeme) → HasItem xs
-        → (joined_by comma (a ∷ b ∷ map value_lexemes xs) ++ right_bracket ∷ []) ++ r ≡ a ++ comma ∷ (b ++ comma ∷ (values xs ++ right_bracket ∷ r))
-    binary_ends a b xs r h =
-        ap (λ l. ((a ++ comma ∷ l) ++ right_bracket ∷ []) ++ r) (behind_one b xs h) ∙ close_after (a ++ comma ∷ (b ++ comma ∷ values xs)) r
-        ∙ append_assoc a (comma ∷ (b ++ comma ∷ values xs)) (right_bracket ∷ r) ∙ ap (λ l. a ++ comma ∷ l) (append_assoc b (comma ∷ values xs) (right_bracket ∷ r))
+        binary_ends : (a b : List Lexeme) (xs : List ValueExpr) (r : List Lexeme) → HasItem xs
+            → (joined_by comma (a ∷ b ∷ map value_lexemes xs) ++ right_bracket ∷ []) ++ r ≡ a ++ comma ∷ (b ++ comma ∷ (values xs ++ right_bracket ∷ r))
+        binary_ends a b xs r h =
+            ap (λ l. ((a ++ comma ∷ l) ++ right_bracket ∷ []) ++ r) (behind_one b xs h) ∙ close_after (a ++ comma ∷ (b ++ comma ∷ values xs)) r
+            ∙ append_assoc a (comma ∷ (b ++ comma ∷ values xs)) (right_bracket ∷ r) ∙ ap (λ l. a ++ comma ∷ l) (append_assoc b (comma ∷ values xs) (right_bracket ∷ r))
 
   same_plan : (x y : PlanExpr) → IsPlan scope x → IsPlan scope y → Apart plan_lexemes Anything x y
   unfolding plan_form plan_lexemes IsPlan
@@ -286,16 +284,16 @@ same_stars s t h k statements e =
     let name = heads _ _ _ _ (tails _ _ _ e) in
     let names = first_word s.name t.name name.0 in
     let inner = sym (close_after (joined_by comma (map parameter_lexemes s.params)) (equals ∷ joined_by bar (map alternative_lexemes s.alternatives))) ∙ tails _ _ _ name.1
-      ∙ close_after (joined_by comma (map parameter_lexemes t.params)) (equals ∷ joined_by bar (map alternative_lexemes t.alternatives)) in
+    ∙ close_after (joined_by comma (map parameter_lexemes t.params)) (equals ∷ joined_by bar (map alternative_lexemes t.alternatives)) in
     let params = series parameter_lexemes (λ _. Unit {0}) (λ _. Unit {0}) comma (λ _. tt) same_parameter s.params t.params _ _ h.some_parameters k.some_parameters (anything s.params) (anything t.params) (tt, no_comma _) (tt, no_comma _) inner in
     let scopes : parameters_of t ≡ parameters_of s = ap (λ (l : List Param). map (λ (p : Param). p.name) l) (sym params.0) in
     let rest = tails _ _ _ (tails _ _ _ params.1) in
     let alternatives = series alternative_lexemes (IsAlternative (parameters_of s)) Anything bar (λ _. tt) (same_alternative (parameters_of s)) s.alternatives t.alternatives [] [] h.some_alternatives k.some_alternatives
-      h.alternatives (subst (λ l. Every (IsAlternative l) t.alternatives) scopes k.alternatives) (tt, nothing bar) (tt, nothing bar)
-      (append-nil (joined_by bar (map alternative_lexemes s.alternatives)) ∙ rest ∙ sym (append-nil (joined_by bar (map alternative_lexemes t.alternatives)))) in
+    h.alternatives (subst (λ l. Every (IsAlternative l) t.alternatives) scopes k.alternatives) (tt, nothing bar) (tt, nothing bar)
+    (append-nil (joined_by bar (map alternative_lexemes s.alternatives)) ∙ rest ∙ sym (append-nil (joined_by bar (map alternative_lexemes t.alternatives)))) in
     λ i. record { statement = statements i; name = names i; params = params.0 i; alternatives = alternatives.0 i } where
-  nothing : (x : Lexeme) (t : List Lexeme) → [] ≡ x ∷ t → ⊥
-  nothing x t e = cc
+      nothing : (x : Lexeme) (t : List Lexeme) → [] ≡ x ∷ t → ⊥
+      nothing x t e = cc
 
 pub one_star : (n : ℕ) (lexemes : List Lexeme) (s t : StarDef) → SpellsStar n lexemes s → SpellsStar n lexemes t → s ≡ t
 one_star n lexemes s t p q = same_stars s t p.stands q.stands (p.number ∙ sym q.number) (sym p.are ∙ q.are)

@@ -11,3 +11,4 @@ pub mod FormulaReading
 pub mod Formulas
 pub mod Values
 pub mod Rules
+pub mod Tiny
