@@ -1,5 +1,5 @@
 -- Where a token ends: what follows it does not go on with it.
-use Rattle.std.proofs.Common.{◌≡◌, ◌+◌, ◌≤◌, ℕ, Bool, true, false, ◌==◌, ◌&&◌, ◌||◌, nat_le, List, [], ◌∷◌, ◌++◌, length, map, Option, Some, refl, ap, arith, length-append, append_assoc}
+use Rattle.std.proofs.Common.{◌≡◌, ◌+◌, ◌≤◌, ℕ, Bool, true, false, nat_le, List, [], ◌∷◌, ◌++◌, length, map, Option, Some, refl, ap, arith, length-append, append_assoc}
 use Rattle.std.specs.Prelude.{codes}
 use Rattle.std.specs.List.{All, AllPass}
 use Rattle.std.proofs.lemmas.Bool.Decides.{nat_tests}
@@ -7,8 +7,8 @@ use Rattle.std.proofs.lemmas.List.Elements.{All-nil, All-cons, All-head, All-tai
 use Rattle.std.proofs.lemmas.List.Sums.{AllPass-from_list_all}
 use Rattle.sb_text.specs.declared.token.TokenKind.{TokenKind}
 use Rattle.sb_text.specs.declared.token.TokenKind.TheVariants.{Word, Number, Text, Symbol}
-use Rattle.sb_text.specs.Bytes.{is_digit, is_in_word, is_quote, is_symbol, is_double, ends_double, begins_word, symbol_bytes}
-use Rattle.sb_text.specs.Forms.{IsWord, IsNumber, IsSymbol, NotFirst, doubled, quoted, symbols}
+use Rattle.sb_text.specs.Bytes.{is_digit, is_in_word, is_quote, is_symbol, is_double, begins_word, symbol_bytes}
+use Rattle.sb_text.specs.Forms.{IsWord, IsNumber, IsSymbol, NotFirst, NoDouble, doubled, quoted, symbols}
 use Rattle.sb_text.specs.Front.{run, token_at, number_len, kind_and_len, longer_by, quoted_len, symbol_len}
 use Rattle.sb_text.proofs.Quoted.{quoted_len-other, quoted_len-pair, quoted_len-closed}
 use Rattle.sb_text.proofs.Runs.{run-all}
@@ -54,37 +54,29 @@ text_ends inner after none =
     rw (append_assoc (doubled inner) (39 ∷ []) after)
     (text_stands (quoted_len (doubled inner ++ 39 ∷ after)) (length (doubled inner) + 1) (length (quoted inner)) (quoted_len-doubled inner after none) (omega (arith, length-append (doubled inner) (39 ∷ []))))
 
-no_double_at : (p q r s : Bool) → (r || s) ≡ false → ((p && (r || s)) || (q && r)) ≡ false
-no_double_at p q true s e = cc
-no_double_at p q false true e = cc
-no_double_at true true false false e = refl
-no_double_at true false false false e = refl
-no_double_at false true false false e = refl
-no_double_at false false false false e = refl
-
-symbol_len-ends : (b : ℕ) (after : List ℕ) → is_symbol b ≡ true → NotFirst ends_double after → symbol_len b after ≡ Some 1
+symbol_len-ends : (b : ℕ) (after : List ℕ) → is_symbol b ≡ true → NoDouble (b ∷ []) after → symbol_len b after ≡ Some 1
 symbol_len-ends b [] e none = rw e refl
-symbol_len-ends b (c ∷ rest) e none = symbol_len-single b c rest (no_double_at (b == 60) (b == 62) (c == 61) (c == 62) none) e
+symbol_len-ends b (c ∷ rest) e none = symbol_len-single b c rest none e
 
 abbrev SymbolStands : List ℕ → List ℕ → Type 0
-SymbolStands after front = Stands Symbol front after
+SymbolStands after front = NoDouble front after → Stands Symbol front after
 
-single_stands : (after : List ℕ) → NotFirst ends_double after → (b : ℕ) → is_single b ≡ true → SymbolStands after (b ∷ [])
-single_stands after none b e =
+single_stands : (after : List ℕ) (b : ℕ) → is_single b ≡ true → SymbolStands after (b ∷ [])
+single_stands after b e none =
     let s = single_tests b e in
     rw (token_at-other b after s.word s.digit s.quote, symbol_len-ends b after s.symbol none) refl
 
 double_stands : (after : List ℕ) (b c : ℕ) → begins_word b ≡ false → is_digit b ≡ false → is_quote b ≡ false → is_double b c ≡ true → SymbolStands after (b ∷ c ∷ [])
-double_stands after b c e f g h = rw (token_at-other b (c ∷ after) e f g, symbol_len-double b c after h) refl
+double_stands after b c e f g h none = rw (token_at-other b (c ∷ after) e f g, symbol_len-double b c after h) refl
 
-each_stands : (after : List ℕ) → NotFirst ends_double after → All (SymbolStands after) symbols
-each_stands after none =
+each_stands : (after : List ℕ) → All (SymbolStands after) symbols
+each_stands after =
     All-append (SymbolStands after) (map (λ b. b ∷ []) symbol_bytes) (codes "<=" ∷ codes "<>" ∷ codes ">=" ∷ [])
     (All-map (SymbolStands after) (λ b. b ∷ []) symbol_bytes
-    (All-weaker (λ b. is_single b ≡ true) (λ b. SymbolStands after (b ∷ [])) (single_stands after none) symbol_bytes (AllPass-from_list_all is_single symbol_bytes refl)))
+    (All-weaker (λ b. is_single b ≡ true) (λ b. SymbolStands after (b ∷ [])) (single_stands after) symbol_bytes (AllPass-from_list_all is_single symbol_bytes refl)))
     (All-cons (SymbolStands after) (codes "<=") (codes "<>" ∷ codes ">=" ∷ []) (double_stands after 60 61 refl refl refl refl)
     (All-cons (SymbolStands after) (codes "<>") (codes ">=" ∷ []) (double_stands after 60 62 refl refl refl refl)
     (All-cons (SymbolStands after) (codes ">=") [] (double_stands after 62 61 refl refl refl refl) (All-nil (SymbolStands after)))))
 
-pub symbol_ends : (front after : List ℕ) → IsSymbol front → NotFirst ends_double after → Stands Symbol front after
-symbol_ends front after is none = All-contains (SymbolStands after) symbols front (each_stands after none) is
+pub symbol_ends : (front after : List ℕ) → IsSymbol front → NoDouble front after → Stands Symbol front after
+symbol_ends front after is none = All-contains (SymbolStands after) symbols front (each_stands after) is none

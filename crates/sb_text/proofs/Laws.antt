@@ -3,8 +3,8 @@ use Rattle.std.proofs.Common.{◌≡◌, ◌≤◌, ◌↔◌, ℕ, List, ◌++�
 use Rattle.std.specs.List.{All}
 use Rattle.sb_text.specs.declared.token.TokenKind.{TokenKind}
 use Rattle.sb_text.specs.declared.token.TokenKind.TheVariants.{Word, Number, Text, Symbol}
-use Rattle.sb_text.specs.Bytes.{is_in_word, is_quote, ends_double}
-use Rattle.sb_text.specs.Forms.{IsWord, IsNumber, IsSymbol, NotFirst, quoted}
+use Rattle.sb_text.specs.Bytes.{is_in_word, is_quote}
+use Rattle.sb_text.specs.Forms.{IsWord, IsNumber, IsSymbol, NotFirst, NoDouble, quoted}
 use Rattle.sb_text.specs.Front.{token_at, IsLongest, NoneBegins}
 use Rattle.sb_text.specs.Tokens.{lexed}
 use Rattle.sb_text.specs.Reading.{IsTokenOf, AreInOrder}
@@ -40,7 +40,7 @@ longest-number front after is = longest (front ++ after) Number (length front) (
 pub longest-text : (inner after : List ℕ) → NotFirst is_quote after → IsLongest Text (length (quoted inner)) (quoted inner ++ after)
 longest-text inner after none = longest (quoted inner ++ after) Text (length (quoted inner)) (text_ends inner after none)
 
-pub longest-symbol : (front after : List ℕ) → IsSymbol front → NotFirst ends_double after → IsLongest Symbol (length front) (front ++ after)
+pub longest-symbol : (front after : List ℕ) → IsSymbol front → NoDouble front after → IsLongest Symbol (length front) (front ++ after)
 longest-symbol front after is none = longest (front ++ after) Symbol (length front) (symbol_ends front after is none)
 
 -- the tokens in their text

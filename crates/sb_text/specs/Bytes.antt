@@ -30,10 +30,6 @@ symbol_bytes = codes "()[]{},;.|=<>+-*/"
 abbrev pub is_symbol : ℕ → Bool
 is_symbol b = list_any (λ s. b == s) symbol_bytes
 
--- the second byte of a double symbol is `=` or `>`
-abbrev pub ends_double : ℕ → Bool
-ends_double c = c == 61 || c == 62
-
 -- <= <> >=
 abbrev pub is_double : ℕ → ℕ → Bool
-is_double b c = (b == 60 && ends_double c) || (b == 62 && c == 61)
+is_double b c = (b == 60 && (c == 61 || c == 62)) || (b == 62 && c == 61)

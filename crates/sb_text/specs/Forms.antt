@@ -4,7 +4,7 @@ use Rattle.std.specs.List.{AllPass}
 use Rattle.std.specs.Bool.{IsFalse}
 use Rattle.sb_text.specs.declared.token.TokenKind.{TokenKind}
 use Rattle.sb_text.specs.declared.token.TokenKind.TheVariants.{Word, Number, Text, Symbol}
-use Rattle.sb_text.specs.Bytes.{begins_word, is_in_word, is_digit, is_quote, symbol_bytes}
+use Rattle.sb_text.specs.Bytes.{begins_word, is_in_word, is_digit, is_quote, symbol_bytes, is_double}
 
 -- a letter or `_`, then letters, digits and `_`
 abbrev pub IsWord : List ℕ → Type 0
@@ -40,6 +40,11 @@ symbols = map (λ b. b ∷ []) symbol_bytes ++ codes "<=" ∷ codes "<>" ∷ cod
 
 abbrev pub IsSymbol : List ℕ → Type 0
 IsSymbol bytes = Contains symbols bytes
+
+-- these bytes do not go on with the symbol before them, as `=` does with `<`
+abbrev pub NoDouble : List ℕ → List ℕ → Type 0
+NoDouble (b ∷ []) (c ∷ rest) = IsFalse (is_double b c)
+NoDouble bytes after = Unit {0}
 
 -- the bytes are a token of this kind where these bytes follow them
 abbrev pub IsToken : TokenKind → List ℕ → List ℕ → Type 0

@@ -2,8 +2,8 @@
 
 ghost use Rattle.std.specs.Prelude.{◌≡◌, ◌<◌, ◌≤◌, ◌↔◌, ℕ, true, false, IsTrue, All, List as Seq, [], ◌∷◌, ◌++◌, length, Option, Some, None};
 ghost use Rattle.std.specs.List.{AllPass, filter, flat_map};
-ghost use Rattle.sb_text.specs.Bytes.{is_in_word, is_quote, ends_double};
-ghost use Rattle.sb_text.specs.Forms.{IsWord, IsNumber, IsSymbol, NotFirst, quoted};
+ghost use Rattle.sb_text.specs.Bytes.{is_in_word, is_quote};
+ghost use Rattle.sb_text.specs.Forms.{IsWord, IsNumber, IsSymbol, NotFirst, NoDouble, quoted};
 ghost use Rattle.sb_text.specs.Front.{token_at, IsLongest, NoneBegins};
 ghost use Rattle.sb_text.specs.Tokens.{lexed};
 ghost use Rattle.sb_text.specs.Reading.{Reads, IsTokenOf, AreInOrder, Stops};
@@ -26,7 +26,7 @@ pub fn token_ends_before_other_bytes()
     ensures number { (front after : Seq ℕ) → IsNumber front after → IsLongest Number (length front) (front ++ after) }
     ensures text { (inner after : Seq ℕ) → NotFirst is_quote after
         → IsLongest Text (length (quoted inner)) (quoted inner ++ after) }
-    ensures symbol { (front after : Seq ℕ) → IsSymbol front → NotFirst ends_double after
+    ensures symbol { (front after : Seq ℕ) → IsSymbol front → NoDouble front after
         → IsLongest Symbol (length front) (front ++ after) }
 {}
 
