@@ -1,11 +1,10 @@
 -- One text spells one catalogue.
-use Rattle.std.proofs.Common.{◌≡◌, ℕ, List, [], ◌∷◌, ◌++◌, map, Some, codes, refl, sym, ap, ◌∙◌, append_assoc, append-nil}
+use Rattle.std.proofs.Common.{◌≡◌, ℕ, List, [], ◌∷◌, ◌++◌, map, Some, codes, refl, sym, ap, ◌∙◌, append_assoc}
 use Rattle.star_model.specs.declared.catalogue.Catalogue.{Catalogue}
-use Rattle.star_model.specs.declared.catalogue.SiteDef.{SiteDef}
 use Rattle.star_model.specs.declared.catalogue.ColumnDef.{ColumnDef}
 use Rattle.star_model.specs.declared.catalogue.ColType.{ColType}
 use Rattle.star_model.specs.declared.catalogue.ColType.TheVariants as type
-use Rattle.spelling.specs.Lexemes.{Lexeme, Word, Number, Text, comma, right_bracket, joined_by, Every, HasItem}
+use Rattle.spelling.specs.Lexemes.{Lexeme, Word, Number, comma, right_bracket, joined_by, HasItem}
 use Rattle.spelling.specs.Catalogues.{CatalogueStatement, Site, Table, Index, TablePart, IndexPart, type_word, column_lexemes, name_lexemes, catalogue_lexemes, HasColumns, SpellsCatalogueStatement, SpellsCatalogue, catalogue_of}
 use Rattle.spelling.proofs.Statements.{one_list, same_lists, series, anything, tails}
 
@@ -59,7 +58,7 @@ same_indexes t u h k e =
     let table : t.table ≡ u.table = cc in
     let rest : (joined_by comma (map name_lexemes t.columns) ++ right_bracket ∷ []) ++ index_rest t ≡ (joined_by comma (map name_lexemes u.columns) ++ right_bracket ∷ []) ++ index_rest u = cc in
     let one = same_names t.columns u.columns (index_rest t) (index_rest u) h k
-      (sym (append_assoc (joined_by comma (map name_lexemes t.columns)) (right_bracket ∷ []) (index_rest t)) ∙ rest ∙ append_assoc (joined_by comma (map name_lexemes u.columns)) (right_bracket ∷ []) (index_rest u)) in
+    (sym (append_assoc (joined_by comma (map name_lexemes t.columns)) (right_bracket ∷ []) (index_rest t)) ∙ rest ∙ append_assoc (joined_by comma (map name_lexemes u.columns)) (right_bracket ∷ []) (index_rest u)) in
     let last : index_rest t ≡ index_rest u = one.1 in
     let pages : t.pages ≡ u.pages = cc in
     λ i. record { name = name i; table = table i; columns = one.0 i; pages = pages i }

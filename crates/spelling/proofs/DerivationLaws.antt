@@ -1,8 +1,7 @@
 -- One text spells one derivation.
-use Rattle.std.proofs.Common.{◌≡◌, ℕ, zero, suc, ◌+◌, ◌^◌, ◌<◌, ◌≤◌, Bool, true, false, nat_eq, cond, List, [], ◌∷◌, ◌++◌, map, filter, Option, Some, None, codes, refl, sym, ap, ◌∙◌, subst, arith, append_assoc, append-nil, eq-or-lt_of_le, inl, inr}
-use Rattle.std.proofs.lemmas.Nat.Bits.{bit_at-lt, same_from_bits_below}
+use Rattle.std.proofs.Common.{◌≡◌, ℕ, zero, suc, ◌+◌, ◌<◌, ◌≤◌, Bool, true, false, cond, List, [], ◌∷◌, ◌++◌, map, filter, Option, Some, None, codes, refl, sym, ap, ◌∙◌, subst, arith, append_assoc, append-nil, eq-or-lt_of_le, inl, inr}
 use Rattle.std.specs.List.{range_with_len}
-use Rattle.std.specs.Int.{bit_at}
+use Rattle.star_model.proofs.Laws.{same_set}
 use Rattle.star_model.specs.Sets.{places, has, members}
 use Rattle.star_model.specs.declared.plans.GlueOp.{GlueOp}
 use Rattle.star_model.specs.declared.plans.GlueOp.TheVariants as glue
@@ -12,22 +11,13 @@ use Rattle.star_model.specs.declared.rules.Flavour.TheVariants as flavour
 use Rattle.star_model.specs.declared.derivations.Deriv.{Deriv}
 use Rattle.star_model.specs.declared.derivations.Deriv.TheVariants as made
 use Rattle.star_model.specs.DerivCases as d
-use Rattle.spelling.specs.Lexemes.{Lexeme, Word, Number, left_brace, right_brace, comma, joined_by, Every}
+use Rattle.spelling.specs.Lexemes.{Lexeme, Word, Number, left_brace, right_brace, comma, joined_by}
 use Rattle.spelling.specs.Names.{found_in}
 use Rattle.spelling.specs.Flavours.{flavour_word, inputs_of}
 use Rattle.spelling.specs.Derivations.{Step, Glue, Goal, Reference, Operator, glue_word, set_lexemes, split_lexemes, statement_of, IsMask, AreMasks, IsStep, steps, statements_of, HasInputs, IsWritable, SpellsDerivation}
 use Rattle.spelling.proofs.Statements.{one_list, same_lists, same_maps, series, anything, heads, tails, apart}
 
 -- ---- sets
-
-same_bits : (x y : ℕ) → x < 2 → y < 2 → nat_eq x 1 ≡ nat_eq y 1 → x ≡ y
-same_bits zero zero p q e = refl
-same_bits zero (suc zero) p q e = cc
-same_bits (suc zero) zero p q e = cc
-same_bits (suc zero) (suc zero) p q e = refl
-same_bits (suc (suc x)) y p q e = absurd (omega arith)
-same_bits zero (suc (suc y)) p q e = absurd (omega arith)
-same_bits (suc zero) (suc (suc y)) p q e = absurd (omega arith)
 
 -- what a filter leaves of a list, by the test of its first
 left_by : Bool → ℕ → List ℕ → List ℕ
@@ -66,9 +56,8 @@ same_tests p q k (suc n) i e low high =
     ]
 
 same_members : (s t : ℕ) → IsMask s → IsMask t → members s ≡ members t → s ≡ t
-unfolding members places has
-same_members s t p q e =
-    same_from_bits_below 32 s t p q (λ i l. same_bits _ _ (bit_at-lt s i) (bit_at-lt t i) (same_tests (λ n. nat_eq (bit_at s n) 1) (λ n. nat_eq (bit_at t n) 1) 0 32 i e (omega arith) (omega arith)))
+unfolding members places
+same_members s t p q e = same_set s t p q (λ n l. same_tests (has s) (has t) 0 32 n e (omega arith) (omega arith))
 
 -- ---- sets as lexemes
 
@@ -103,7 +92,7 @@ same_sets : (s t : ℕ) (q r : List Lexeme) → IsMask s → IsMask t → set_le
 same_sets s t q r p o e =
     let inner : (joined_by comma (map number (members s)) ++ right_brace ∷ []) ++ q ≡ (joined_by comma (map number (members t)) ++ right_brace ∷ []) ++ r = tails left_brace _ _ e in
     let one = same_numbers_before (members s) (members t) q r
-      (sym (append_assoc (joined_by comma (map number (members s))) (right_brace ∷ []) q) ∙ inner ∙ append_assoc (joined_by comma (map number (members t))) (right_brace ∷ []) r) in
+    (sym (append_assoc (joined_by comma (map number (members s))) (right_brace ∷ []) q) ∙ inner ∙ append_assoc (joined_by comma (map number (members t))) (right_brace ∷ []) r) in
     (same_members s t p o one.0, one.1)
 
 -- ---- statements
@@ -146,8 +135,8 @@ decode_flavour : Lexeme → Flavour
 decode_flavour (Word bytes) =
     found_in flavour.JoinHash
     ((codes "ACCESS_HEAP", flavour.AccessHeap) ∷ (codes "ACCESS_INDEX", flavour.AccessIndex) ∷ (codes "GET", flavour.Get) ∷ (codes "FILTER", flavour.Filter)
-      ∷ (codes "SORT", flavour.Sort) ∷ (codes "STORE", flavour.Store) ∷ (codes "SHIP", flavour.Ship) ∷ (codes "PROBE", flavour.Probe)
-      ∷ (codes "JOIN_NL", flavour.JoinNl) ∷ (codes "JOIN_MERGE", flavour.JoinMerge) ∷ []) bytes
+    ∷ (codes "SORT", flavour.Sort) ∷ (codes "STORE", flavour.Store) ∷ (codes "SHIP", flavour.Ship) ∷ (codes "PROBE", flavour.Probe)
+    ∷ (codes "JOIN_NL", flavour.JoinNl) ∷ (codes "JOIN_MERGE", flavour.JoinMerge) ∷ []) bytes
 decode_flavour _ = flavour.JoinHash
 
 decoded_flavour : (f : Flavour) → f ≡ decode_flavour (Word (flavour_word f))

@@ -12,3 +12,8 @@ mod TokenForms
 mod Undoubling
 mod Readers
 mod ValueReading
+mod ConditionLaws
+mod FormulaLaws
+mod RuleLaws
+mod Thin
+pub mod Laws

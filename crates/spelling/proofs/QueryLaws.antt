@@ -1,12 +1,12 @@
 -- One text spells one query.
-use Rattle.std.proofs.Common.{◌≡◌, ℕ, Bool, true, false, List, [], ◌∷◌, ◌++◌, map, Option, Some, None, codes, refl, sym, ap, ◌∙◌, subst, append_assoc, append-nil}
+use Rattle.std.proofs.Common.{◌≡◌, ℕ, true, false, List, [], ◌∷◌, ◌++◌, map, Option, Some, None, codes, refl, sym, ap, ◌∙◌, subst}
 use Rattle.star_model.specs.declared.catalogue.Catalogue.{Catalogue}
 use Rattle.star_model.specs.declared.query.Query.{Query}
 use Rattle.star_model.specs.declared.query.Cmp.{Cmp}
 use Rattle.star_model.specs.declared.query.Cmp.TheVariants as cmp
-use Rattle.spelling.specs.Lexemes.{Lexeme, Word, Number, Text, Symbol, comma, joined_by, Every, HasItem}
+use Rattle.spelling.specs.Lexemes.{Lexeme, Word, Symbol, comma, joined_by}
 use Rattle.spelling.specs.Names.{is_among, found_in}
-use Rattle.spelling.specs.Queries.{ColumnName, Item, Constant, Whole, Negative, Quoted, Side, OfColumn, OfConstant, Comparison, QueryStatement, column_lexemes, own_name, IsFreeIfAny, item_lexemes, cmp_lexeme, constant_lexemes, side_lexemes, comparison_lexemes, columns_lexemes, where_lexemes, order_lexemes, at_lexemes, query_lexemes, reserved_in_queries, IsFree, HasFreeNames, IsQueryStatement, SpellsQueryStatement, SpellsQuery, query_of}
+use Rattle.spelling.specs.Queries.{ColumnName, Item, Whole, Negative, Quoted, Side, OfColumn, OfConstant, Comparison, QueryStatement, column_lexemes, own_name, IsFreeIfAny, item_lexemes, cmp_lexeme, side_lexemes, comparison_lexemes, columns_lexemes, where_lexemes, order_lexemes, at_lexemes, query_lexemes, reserved_in_queries, IsFree, HasFreeNames, IsQueryStatement, SpellsQueryStatement, SpellsQuery, query_of}
 use Rattle.spelling.proofs.Statements.{one_list, series, anything, differ, heads}
 
 same_column : (c d : ColumnName) (r s : List Lexeme) → Unit {0} → Unit {0} → Unit {0} → Unit {0} → column_lexemes c ++ r ≡ column_lexemes d ++ s → (c ≡ d) × (r ≡ s)
@@ -148,8 +148,8 @@ same_statement q r p s e =
     let selects = series column_lexemes (λ _. Unit {0}) (λ _. Unit {0}) comma (λ _. tt) same_column q.select r.select _ _ p.some_columns s.some_columns (anything q.select) (anything r.select) (tt, λ t f. cc) (tt, λ t f. cc) first.1 in
     let second = heads (Word (codes "from")) (Word (codes "from")) _ _ selects.1 in
     let items = series item_lexemes HasFreeNames NotFree comma (λ rest name t free f. cc) same_item q.items r.items (tail q) (tail r) p.some_items s.some_items p.items s.items
-      (not_free q.comparisons q.order q.site, λ t f. where_begins q.comparisons q.order q.site comma t (λ g. cc) (λ g. cc) (λ g. cc) f)
-      (not_free r.comparisons r.order r.site, λ t f. where_begins r.comparisons r.order r.site comma t (λ g. cc) (λ g. cc) (λ g. cc) f) second.1 in
+    (not_free q.comparisons q.order q.site, λ t f. where_begins q.comparisons q.order q.site comma t (λ g. cc) (λ g. cc) (λ g. cc) f)
+    (not_free r.comparisons r.order r.site, λ t f. where_begins r.comparisons r.order r.site comma t (λ g. cc) (λ g. cc) (λ g. cc) f) second.1 in
     let wheres = same_where q.comparisons r.comparisons q.order r.order q.site r.site items.1 in
     let orders = same_order q.order r.order q.site r.site wheres.1 in
     let sites = same_site q.site r.site orders.1 in
@@ -167,5 +167,5 @@ one_query catalogue text a b p q =
     let first : query_lexemes p.statement ≡ query_lexemes q.statement = firsts _ _ lists in
     let one = same_statement p.statement q.statement p.stands q.stands first in
     some_same a b (sym p.means ∙ ap (query_of catalogue) one ∙ q.means) where
-  firsts : (x y : List Lexeme) → x ∷ [] ≡ y ∷ [] → x ≡ y
-  firsts x y e = cc
+      firsts : (x y : List Lexeme) → x ∷ [] ≡ y ∷ [] → x ≡ y
+      firsts x y e = cc

@@ -1,10 +1,10 @@
 -- Reading from the front of a list of lexemes.
-use Rattle.std.proofs.Common.{◌≡◌, ℕ, ◌+◌, Bool, true, false, ◌&&◌, if◌then◌else◌, List, [], ◌∷◌, ◌++◌, map, length, Option, Some, None, option_and_then, codes, refl, sym, ap, ◌∙◌, subst, length-append}
+use Rattle.std.proofs.Common.{◌≡◌, ℕ, ◌+◌, Bool, true, false, if◌then◌else◌, List, [], ◌∷◌, ◌++◌, length, Option, Some, None, option_and_then, refl, sym, ◌∙◌, subst, length-append}
 use Rattle.std.proofs.lemmas.Bool.{and_parts}
-use Rattle.std.specs.List.{list_all, list_any}
+use Rattle.std.specs.List.{list_all}
 use Rattle.std.specs.Cmp.Lexicographic.{same_text}
 use Rattle.star_model.specs.Vectors.{same_numbers}
-use Rattle.spelling.specs.Lexemes.{Lexeme, Word, Number, Text, Symbol}
+use Rattle.spelling.specs.Lexemes.{Lexeme, Symbol}
 use Rattle.spelling.specs.Names.{is_among, found_in}
 use Rattle.spelling.specs.Values.{reserved_in_rules, IsName}
 
@@ -40,10 +40,10 @@ not_found other [] name all free = refl
 not_found {A} other (row ∷ rows) name all free =
     let p = and_parts (is_among reserved_in_rules row.0) (list_all (λ (r : List ℕ × A). is_among reserved_in_rules r.0) rows) all in
     at (same_numbers row.0 name) refl (not_found other rows name p.1 free) p.0 where
-  at : (b : Bool) → same_numbers row.0 name ≡ b → found_in other rows name ≡ other → is_among reserved_in_rules row.0 ≡ true → found_in other (row ∷ rows) name ≡ other
-  at true is later reserved =
-      let same = same_text row.0 name (sym is) in
-      let yes_ : is_among reserved_in_rules name ≡ true = subst (λ (w : List ℕ). is_among reserved_in_rules w ≡ true) same reserved in
-      let bad : true ≡ false = sym yes_ ∙ free in
-      cc
-  at false is later reserved = rw is later
+      at : (b : Bool) → same_numbers row.0 name ≡ b → found_in other rows name ≡ other → is_among reserved_in_rules row.0 ≡ true → found_in other (row ∷ rows) name ≡ other
+      at true is later reserved =
+          let same = same_text row.0 name (sym is) in
+          let yes_ : is_among reserved_in_rules name ≡ true = subst (λ (w : List ℕ). is_among reserved_in_rules w ≡ true) same reserved in
+          let bad : true ≡ false = sym yes_ ∙ free in
+          cc
+      at false is later reserved = rw is later

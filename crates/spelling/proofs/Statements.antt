@@ -1,6 +1,9 @@
 -- A text has one list of statements, and what no two items begin alike is told apart in series.
-use Rattle.std.proofs.Common.{◌≡◌, ℕ, Bool, true, false, List, [], ◌∷◌, ◌++◌, map, refl, sym, ap, ◌∙◌, append_assoc, append-nil, subst, eq-eqb}
-use Rattle.spelling.specs.Lexemes.{Lexeme, IsStatements, MaybeEnded, ended, joined_by, Every, HasItem, statements_in, Word}
+use Rattle.std.proofs.Common.{◌≡◌, ℕ, true, false, None, List, [], ◌∷◌, ◌++◌, map, refl, sym, ap, ◌∙◌, append_assoc, subst, eq-eqb}
+use Rattle.spelling.specs.Lexemes.{Lexeme, IsStatements, MaybeEnded, ended, joined_by, Every, HasItem, statements_in, lexemes_of, Word, Symbol}
+use Rattle.sb_text.specs.declared.token.Token.{Token}
+use Rattle.sb_text.specs.Tokens.{Lexed, lexed}
+use Rattle.sb_text.specs.Statements.{Part, parts}
 use Rattle.star_model.specs.Vectors.{same_numbers}
 
 -- a map that tells items apart tells lists of them apart
@@ -50,11 +53,19 @@ tails x r s e = cc
 pub apart : (a b : List ℕ) (r s : List Lexeme) → same_numbers a b ≡ false → Word a ∷ r ≡ Word b ∷ s → ⊥
 apart a b r s other e = differ a b other (heads (Word a) (Word b) r s e).0
 
+pub apart_symbols : (a b : List ℕ) (r s : List Lexeme) → same_numbers a b ≡ false → Symbol a ∷ r ≡ Symbol b ∷ s → ⊥
+apart_symbols a b r s other e =
+    let one : a ≡ b = symbols a b (heads (Symbol a) (Symbol b) r s e).0 in
+    let not_ : same_numbers a a ≡ false = subst (λ (l : List ℕ). same_numbers a l ≡ false) (sym one) other in
+    let is = same_self a in
+    cc where
+      symbols : (a b : List ℕ) → Symbol a ≡ Symbol b → a ≡ b
+      symbols a b e = cc
+
 -- Items, of which none is the beginning of another where what follows is of a kind, and a lexeme between two.
 module _ {A : Type 0} (spell : A → List Lexeme) (Ok : A → Type 0) (Follow : List Lexeme → Type 0) (between : Lexeme)
     (follows : (r : List Lexeme) → Follow (between ∷ r))
     (splits : (x y : A) (r s : List Lexeme) → Ok x → Ok y → Follow r → Follow s → spell x ++ r ≡ spell y ++ s → (x ≡ y) × (r ≡ s)) where
-
   -- what may stand behind the last item
   abbrev pub Ends : List Lexeme → Type 0
   Ends r = Follow r × ((t : List Lexeme) → r ≡ between ∷ t → ⊥)
@@ -75,7 +86,7 @@ module _ {A : Type 0} (spell : A → List Lexeme) (Ok : A → Type 0) (Follow : 
       absurd (n.1 (all (x2 ∷ xs) ++ r) (sym one.1))
   series_from x y (x2 ∷ xs) (y2 ∷ ys) r s p q m n e =
       let one = splits x y (between ∷ (all (x2 ∷ xs) ++ r)) (between ∷ (all (y2 ∷ ys) ++ s)) p.0 q.0 (follows (all (x2 ∷ xs) ++ r)) (follows (all (y2 ∷ ys) ++ s))
-        (sym (append_assoc (spell x) (between ∷ all (x2 ∷ xs)) r) ∙ e ∙ append_assoc (spell y) (between ∷ all (y2 ∷ ys)) s) in
+      (sym (append_assoc (spell x) (between ∷ all (x2 ∷ xs)) r) ∙ e ∙ append_assoc (spell y) (between ∷ all (y2 ∷ ys)) s) in
       let later : all (x2 ∷ xs) ++ r ≡ all (y2 ∷ ys) ++ s = cc in
       let more = series_from x2 y2 xs ys r s p.1 q.1 m n later in
       ((λ i. one.0 i ∷ more.0 i), more.1)
@@ -85,3 +96,20 @@ module _ {A : Type 0} (spell : A → List Lexeme) (Ok : A → Type 0) (Follow : 
   series [] ys r s h k p q m n e = absurd h
   series (x ∷ xs) [] r s h k p q m n e = absurd k
   series (x ∷ xs) (y ∷ ys) r s h k p q m n e = series_from x y xs ys r s p q m n e
+
+-- ---- from tokens
+
+abbrev pub all_ended : List (List Token) → List Part
+all_ended list = map (λ ts. (ts, true)) list
+
+said_each : (text : List ℕ) (list : List (List Token)) → map (λ (part : Part). (lexemes_of text part.0, part.1)) (all_ended list) ≡ map ended (map (lexemes_of text) list)
+said_each text [] = refl
+said_each text (ts ∷ list) = ap (λ l. ended (lexemes_of text ts) ∷ l) (said_each text list)
+
+-- the statements of a text, from its tokens
+pub statements_of_tokens : (text : List ℕ) (tokens : List Token) (list : List (List Token)) → lexed text ≡ (tokens, None) → parts tokens ≡ all_ended list → IsStatements text (map (lexemes_of text) list)
+unfolding statements_in
+statements_of_tokens text tokens list read cut = record {
+  all_tokens = ap (λ (l : Lexed). l.1) read;
+  are = ap (λ (l : Lexed). map (λ (part : Part). (lexemes_of text part.0, part.1)) (parts l.0)) read ∙ ap (λ (l : List Part). map (λ (part : Part). (lexemes_of text part.0, part.1)) l) cut ∙ said_each text list;
+}

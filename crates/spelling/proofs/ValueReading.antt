@@ -1,11 +1,10 @@
 -- Values are read from the front of a list of lexemes, so none is the beginning of another where no square bracket follows.
-use Rattle.std.proofs.Common.{◌≡◌, ℕ, zero, suc, ◌+◌, ◌-◌, ◌<◌, ◌≤◌, Bool, true, false, ◌&&◌, if◌then◌else◌, List, [], ◌∷◌, ◌++◌, map, length, Option, Some, None, option_and_then, codes, refl, sym, ap, ◌∙◌, subst, arith, append_assoc, append-nil, length-append}
+use Rattle.std.proofs.Common.{◌≡◌, ℕ, zero, suc, ◌+◌, ◌-◌, ◌<◌, ◌≤◌, List, [], ◌∷◌, ◌++◌, length, Option, Some, None, codes, refl, sym, ap, ◌∙◌, subst, arith, append_assoc}
 use Rattle.std.proofs.lemmas.Option.{some_pair_parts}
-use Rattle.star_model.specs.Vectors.{same_numbers}
 use Rattle.star_model.specs.declared.rules.ValueExpr.{ValueExpr}
 use Rattle.star_model.specs.declared.rules.ValueExpr.TheVariants as plain
 use Rattle.star_model.specs.ValueCases.{WithOrder, WithSite, WithTemp, WithPath, Tables, Inside, Crossing, Between, Equalities, Indexable, Columns, Keys, Home, Union, Minus, Meet}
-use Rattle.spelling.specs.Lexemes.{Lexeme, Word, Number, Text, Symbol, left_bracket, right_bracket, left_square, right_square, comma, joined_by, bracketed}
+use Rattle.spelling.specs.Lexemes.{Lexeme, Word, left_bracket, right_bracket, left_square, right_square, comma}
 use Rattle.spelling.specs.Names.{found_in}
 use Rattle.spelling.specs.Values.{IsName, place_among, value_lexemes, IsValue, call, in_squares}
 use Rattle.spelling.proofs.Readers.{Reader, ◌>>=◌, ◌>>◌, pure, after, not_found, len}
@@ -217,7 +216,7 @@ module _ (scope : List (List ℕ)) where
       let l = ap length e in
       let m = len a (right_bracket ∷ []) in
       let read = one_read (value_at n) word f v ((a ++ right_bracket ∷ []) ++ rest) rest h
-        (inside v n (right_bracket ∷ rest) claim (omega (arith, l, m, le)) refl _ (append_assoc a (right_bracket ∷ []) rest)) in
+      (inside v n (right_bracket ∷ rest) claim (omega (arith, l, m, le)) refl _ (append_assoc a (right_bracket ∷ []) rest)) in
       begun n (value_lexemes (f v) ++ rest) rest (f v) (ap (λ ws. base_at (value_at n) (ws ++ rest)) e ∙ read)
 
   two_claim : (word : List ℕ) (f : ValueExpr → ValueExpr → ValueExpr) (v w : ValueExpr) → head_of word ≡ OfTwo f → value_lexemes (f v w) ≡ call word (value_lexemes v ∷ value_lexemes w ∷ []) → Claim v → Claim w → Claim (f v w)
@@ -229,8 +228,8 @@ module _ (scope : List (List ℕ)) where
       let m = len (a ++ comma ∷ b) (right_bracket ∷ []) in
       let k = len a (comma ∷ b) in
       let read = two_read (value_at n) word f v w (((a ++ comma ∷ b) ++ right_bracket ∷ []) ++ rest) (b ++ right_bracket ∷ rest) rest h
-        (inside v n (comma ∷ (b ++ right_bracket ∷ rest)) claim (omega (arith, l, m, k, le)) refl _ (two_ends a b rest))
-        (inside w n (right_bracket ∷ rest) claim' (omega (arith, l, m, k, le)) refl _ refl) in
+      (inside v n (comma ∷ (b ++ right_bracket ∷ rest)) claim (omega (arith, l, m, k, le)) refl _ (two_ends a b rest))
+      (inside w n (right_bracket ∷ rest) claim' (omega (arith, l, m, k, le)) refl _ refl) in
       begun n (value_lexemes (f v w) ++ rest) rest (f v w) (ap (λ ws. base_at (value_at n) (ws ++ rest)) e ∙ read)
 
   three_claim : (word : List ℕ) (f : ValueExpr → ValueExpr → ValueExpr → ValueExpr) (v w u : ValueExpr) → head_of word ≡ OfThree f → value_lexemes (f v w u) ≡ call word (value_lexemes v ∷ value_lexemes w ∷ value_lexemes u ∷ [])
@@ -245,9 +244,9 @@ module _ (scope : List (List ℕ)) where
       let k = len a (comma ∷ (b ++ comma ∷ c)) in
       let j = len b (comma ∷ c) in
       let read = three_read (value_at n) word f v w u (((a ++ comma ∷ (b ++ comma ∷ c)) ++ right_bracket ∷ []) ++ rest) (b ++ comma ∷ (c ++ right_bracket ∷ rest)) (c ++ right_bracket ∷ rest) rest h
-        (inside v n (comma ∷ (b ++ comma ∷ (c ++ right_bracket ∷ rest))) claim (omega (arith, l, m, k, j, le)) refl _ (three_ends a b c rest))
-        (inside w n (comma ∷ (c ++ right_bracket ∷ rest)) claim' (omega (arith, l, m, k, j, le)) refl _ refl)
-        (inside u n (right_bracket ∷ rest) claim'' (omega (arith, l, m, k, j, le)) refl _ refl) in
+      (inside v n (comma ∷ (b ++ comma ∷ (c ++ right_bracket ∷ rest))) claim (omega (arith, l, m, k, j, le)) refl _ (three_ends a b c rest))
+      (inside w n (comma ∷ (c ++ right_bracket ∷ rest)) claim' (omega (arith, l, m, k, j, le)) refl _ refl)
+      (inside u n (right_bracket ∷ rest) claim'' (omega (arith, l, m, k, j, le)) refl _ refl) in
       begun n (value_lexemes (f v w u) ++ rest) rest (f v w u) (ap (λ ws. base_at (value_at n) (ws ++ rest)) e ∙ read)
 
   with_claim : (word : List ℕ) (f : ValueExpr → ValueExpr → ValueExpr) (t v : ValueExpr) → wish_of word ≡ With f → value_lexemes (f t v) ≡ value_lexemes t ++ in_squares (Word word ∷ value_lexemes v) → Claim t → Claim v → Claim (f t v)

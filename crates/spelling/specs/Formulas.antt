@@ -1,5 +1,5 @@
 -- Which lexemes spell a formula.
-use Rattle.std.specs.Prelude.{◌≡◌, ℕ, List, [], ◌∷◌, map, codes}
+use Rattle.std.specs.Prelude.{ℕ, List, [], ◌∷◌, map, codes}
 use Rattle.star_model.specs.declared.formula.Formula.{Formula}
 use Rattle.star_model.specs.declared.formula.Test.TheVariants as test
 use Rattle.star_model.specs.declared.formula.Var.{Var}

@@ -1,6 +1,6 @@
 -- The canonical layout of a text, and the lexemes that a text can have.
-use Rattle.std.specs.Prelude.{◌≡◌, ℕ, ◌^◌, ◌<◌, Bool, true, false, ◌==◌, ◌&&◌, ◌||◌, if◌then◌else◌, List, [], ◌∷◌, ◌++◌, codes, decimal}
-use Rattle.std.specs.List.{list_all, list_any}
+use Rattle.std.specs.Prelude.{◌≡◌, ℕ, ◌^◌, ◌<◌, Bool, false, ◌||◌, if◌then◌else◌, List, [], ◌∷◌, ◌++◌, codes, decimal}
+use Rattle.std.specs.List.{list_any}
 use Rattle.sb_text.specs.Forms.{IsWord, IsSymbol, quoted}
 use Rattle.star_model.specs.Vectors.{same_numbers}
 use Rattle.spelling.specs.Lexemes.{Lexeme, Word, Number, Text, Symbol, semicolon}

@@ -1,5 +1,5 @@
 -- What the tokens of a text say: its lexemes, and its statements as lists of lexemes.
-use Rattle.std.specs.Prelude.{◌≡◌, ℕ, Bool, true, ◌==◌, if◌then◌else◌, List, [], ◌∷◌, ◌++◌, map, drop, slice_range, None, codes}
+use Rattle.std.specs.Prelude.{◌≡◌, ℕ, Bool, true, ◌==◌, if◌then◌else◌, List, [], ◌∷◌, ◌++◌, map, drop, None, codes}
 use Rattle.std.specs.Str.Parse.{digits_value}
 use Rattle.sb_text.specs.declared.token.Token.{Token}
 use Rattle.sb_text.specs.declared.token.TokenKind.{TokenKind}

@@ -13,3 +13,4 @@ pub mod Reading
 pub mod Cursors
 pub mod Values
 pub mod Rules
+pub mod Tiny

@@ -1,5 +1,5 @@
 -- Which text spells a query over a catalogue.
-use Rattle.std.specs.Prelude.{◌≡◌, ℕ, Bool, true, false, List, [], ◌∷◌, ◌++◌, map, Option, Some, None, option_map, option_and_then, codes, pos, neg_ℤ, slice_get}
+use Rattle.std.specs.Prelude.{◌≡◌, ℕ, false, List, [], ◌∷◌, ◌++◌, map, Option, Some, None, option_map, codes, pos, neg_ℤ, slice_get}
 use Rattle.std.specs.Prelude.{unwrap_or}
 use Rattle.star_model.specs.declared.catalogue.Catalogue.{Catalogue}
 use Rattle.star_model.specs.declared.catalogue.Value.{Value}
@@ -97,8 +97,18 @@ at_lexemes (Some name) = Word (codes "at") ∷ Word name ∷ []
 abbrev pub query_lexemes : QueryStatement → List Lexeme
 query_lexemes q =
     Word (codes "select") ∷ (columns_lexemes q.select
-      ++ Word (codes "from") ∷ (joined_by comma (map item_lexemes q.items)
-        ++ (where_lexemes q.comparisons ++ (order_lexemes q.order ++ at_lexemes q.site))))
+    ++ Word (codes "from") ∷ (joined_by comma (map item_lexemes q.items)
+    ++ (where_lexemes q.comparisons ++ (order_lexemes q.order ++ at_lexemes q.site))))
+
+-- a column of a table that is its own quantifier
+abbrev pub only_column : List ℕ → List ℕ → QueryStatement
+only_column table column = record {
+  select = record { quantifier = table; column = column } ∷ [];
+  items = record { table = table; name = None } ∷ [];
+  comparisons = [];
+  order = [];
+  site = None;
+}
 
 -- no table, quantifier or site has such a name
 abbrev pub reserved_in_queries : List (List ℕ)

@@ -1,5 +1,5 @@
 -- Which text spells a rule file.
-use Rattle.std.specs.Prelude.{◌≡◌, ℕ, ◌+◌, Bool, false, List, [], ◌∷◌, ◌++◌, length, map, Option, Some, None, codes}
+use Rattle.std.specs.Prelude.{◌≡◌, ℕ, ◌+◌, List, [], ◌∷◌, ◌++◌, length, map, Option, Some, None, codes}
 use Rattle.std.specs.List.{flat_map}
 use Rattle.star_model.specs.Kinds.{argument_kinds}
 use Rattle.star_model.specs.PlanExprCases as expr
@@ -14,9 +14,9 @@ use Rattle.star_model.specs.declared.rules.Param.{Param}
 use Rattle.star_model.specs.declared.rules.StarDef.{StarDef}
 use Rattle.star_model.specs.declared.rules.FormulaDef.{FormulaDef}
 use Rattle.star_model.specs.declared.rules.RuleFile.{RuleFile}
-use Rattle.spelling.specs.Lexemes.{Lexeme, Word, IsStatements, comma, bar, equals, joined_by, bracketed, Every, HasItem}
+use Rattle.spelling.specs.Lexemes.{Lexeme, Word, IsStatements, bar, equals, joined_by, Every, HasItem}
 use Rattle.spelling.specs.Flavours.{flavour_word, inputs_of, which_word, kind_word}
-use Rattle.spelling.specs.Formulas.{SpellsFormula}
+use Rattle.spelling.specs.Formulas.{SpellsFormula, formula_lexemes}
 use Rattle.spelling.specs.Values.{IsName, call, value_lexemes, IsValue, range_lexemes, IsRange, condition_lexemes, IsCondition}
 
 -- ---- plans
@@ -106,6 +106,10 @@ pub record SpellsFormulaDef (n : ℕ) (lexemes : List Lexeme) (d : FormulaDef) :
   pub formula : List Lexeme
   pub are : lexemes ≡ Word (which_word d.which) ∷ Word (flavour_word d.flavour) ∷ equals ∷ formula
   pub spelled : SpellsFormula formula d.formula
+
+-- how it is written with the fewest brackets
+abbrev pub formula_def_lexemes : FormulaDef → List Lexeme
+formula_def_lexemes d = Word (which_word d.which) ∷ Word (flavour_word d.flavour) ∷ equals ∷ formula_lexemes d.formula
 
 -- the statements from this number on define these formulas and these STARs, each list in their order
 pub data SpellsDefinitions : ℕ → List (List Lexeme) → List FormulaDef → List StarDef → Type 0 where

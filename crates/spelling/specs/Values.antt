@@ -1,5 +1,5 @@
 -- How the values, the ranges and the conditions of the rule language are written.
-use Rattle.std.specs.Prelude.{◌≡◌, ℕ, Bool, false, List, [], ◌∷◌, ◌++◌, unwrap_or, codes}
+use Rattle.std.specs.Prelude.{◌≡◌, ℕ, false, List, [], ◌∷◌, ◌++◌, unwrap_or, codes}
 use Rattle.star_model.specs.ValueCases.{WithOrder, WithSite, WithTemp, WithPath, Tables, Inside, Crossing, Between, Equalities, Indexable, Columns, Keys, Home, Union, Minus, Meet}
 use Rattle.star_model.specs.ConditionCases as condition
 use Rattle.star_model.specs.declared.rules.ValueExpr.{ValueExpr}

@@ -3,6 +3,7 @@
 #![tactic(auto)]
 
 mod cursor;
+pub mod theorems;
 pub mod words;
 
 pub use cursor::{Cursor, same_lexeme};

@@ -1,0 +1,79 @@
+// The laws of the definitions, each the clause of a function that does nothing.
+
+ghost use Rattle.std.specs.Prelude.{◌≡◌, ℕ, List, [], ◌∷◌, map, true, None};
+ghost use Rattle.sb_text.specs.declared.token.Token.{Token};
+ghost use Rattle.sb_text.specs.Tokens.{lexed};
+ghost use Rattle.sb_text.specs.Statements.{parts};
+ghost use Rattle.spelling.specs.Lexemes.{Lexeme, IsStatements, lexemes_of, HasItem};
+ghost use Rattle.spelling.specs.Derivations.{SpellsDerivation};
+ghost use Rattle.spelling.specs.Catalogues.{CatalogueStatement, Site, Table, TablePart, table_from, catalogue_lexemes, SpellsCatalogueStatement, SpellsCatalogue};
+ghost use Rattle.spelling.specs.Queries.{QueryStatement, only_column, query_lexemes, IsFree, SpellsQueryStatement, SpellsQuery};
+ghost use Rattle.spelling.specs.Formulas.{SpellsFormula, formula_lexemes};
+ghost use Rattle.spelling.specs.Rules.{SpellsStar, SpellsFormulaDef, formula_def_lexemes, SpellsRules};
+ghost use Rattle.spelling.specs.Tiny.{tiny_lexemes, tiny_rules};
+ghost use Rattle.star_model.specs.declared.catalogue.Catalogue.{Catalogue};
+ghost use Rattle.star_model.specs.declared.catalogue.SiteDef.{SiteDef};
+ghost use Rattle.star_model.specs.declared.catalogue.TableDef.{TableDef};
+ghost use Rattle.star_model.specs.declared.catalogue.ColumnDef.{ColumnDef};
+ghost use Rattle.star_model.specs.declared.query.Query.{Query};
+ghost use Rattle.star_model.specs.declared.formula.Formula.{Formula};
+ghost use Rattle.star_model.specs.declared.derivations.Deriv.{Deriv};
+ghost use Rattle.star_model.specs.declared.rules.RuleFile.{RuleFile};
+ghost use Rattle.star_model.specs.declared.rules.StarDef.{StarDef};
+ghost use Rattle.star_model.specs.declared.rules.FormulaDef.{FormulaDef};
+
+/// One text has one list of statements.
+pub fn one_list_of_statements()
+    ensures { (text : List ℕ) (a b : List (List Lexeme)) → IsStatements text a → IsStatements text b → a ≡ b }
+{}
+
+/// The statements of a text whose tokens are known.
+pub fn statements_come_from_tokens()
+    ensures { (text : List ℕ) (tokens : List Token) (list : List (List Token)) → lexed text ≡ (tokens, None) → parts tokens ≡ map (λ ts. (ts, true)) list → IsStatements text (map (lexemes_of text) list) }
+{}
+
+/// One text spells at most one derivation.
+pub fn one_derivation()
+    ensures { (text : List ℕ) (t u : Deriv) → SpellsDerivation text t → SpellsDerivation text u → t ≡ u }
+{}
+
+/// One text spells at most one catalogue, and so does each of its statements.
+pub fn one_catalogue()
+    ensures text { (text : List ℕ) (c d : Catalogue) → SpellsCatalogue text c → SpellsCatalogue text d → c ≡ d }
+    ensures statement { (lexemes : List Lexeme) (s t : CatalogueStatement) → SpellsCatalogueStatement lexemes s → SpellsCatalogueStatement lexemes t → s ≡ t }
+{}
+
+/// One text spells at most one query over a catalogue.
+pub fn one_query()
+    ensures text { (catalogue : Catalogue) (text : List ℕ) (q r : Query) → SpellsQuery catalogue text q → SpellsQuery catalogue text r → q ≡ r }
+    ensures statement { (lexemes : List Lexeme) (q r : QueryStatement) → SpellsQueryStatement lexemes q → SpellsQueryStatement lexemes r → q ≡ r }
+{}
+
+/// One list of lexemes spells at most one formula.
+pub fn one_formula()
+    ensures { (lexemes : List Lexeme) (x y : Formula) → SpellsFormula lexemes x → SpellsFormula lexemes y → x ≡ y }
+{}
+
+/// What is written with the fewest brackets spells its formula, and the statement that defines it.
+pub fn fewest_brackets_spell()
+    ensures formula { (x : Formula) → SpellsFormula (formula_lexemes x) x }
+    ensures statement { (d : FormulaDef) → SpellsFormulaDef d.statement (formula_def_lexemes d) d }
+{}
+
+/// One text spells at most one rule file, and so does each of its statements.
+pub fn one_rule_file()
+    ensures text { (text : List ℕ) (a b : RuleFile) → SpellsRules text a → SpellsRules text b → a ≡ b }
+    ensures star { (n : ℕ) (lexemes : List Lexeme) (s t : StarDef) → SpellsStar n lexemes s → SpellsStar n lexemes t → s ≡ t }
+    ensures formula { (n : ℕ) (lexemes : List Lexeme) (d f : FormulaDef) → SpellsFormulaDef n lexemes d → SpellsFormulaDef n lexemes f → d ≡ f }
+{}
+
+/// What the smallest texts spell: the smallest rule file that is accepted, one site with one table at it, and a query for the
+/// only column of the only table.
+pub fn smallest_texts_spell()
+    ensures rules { (text : List ℕ) → IsStatements text tiny_lexemes → SpellsRules text tiny_rules }
+    ensures catalogue { (text : List ℕ) (s : SiteDef) (t : TablePart) → t.site ≡ s.name → HasItem t.columns → IsStatements text (catalogue_lexemes (Site s) ∷ catalogue_lexemes (Table t) ∷ [])
+        → SpellsCatalogue text (record { sites = s ∷ []; tables = table_from 0 t ∷ []; indexes = [] }) }
+    ensures query { (catalogue : Catalogue) (text : List ℕ) (t : TableDef) (c : ColumnDef) → catalogue.tables ≡ t ∷ [] → t.columns ≡ c ∷ [] → IsFree t.name
+        → IsStatements text (query_lexemes (only_column t.name c.name) ∷ [])
+        → SpellsQuery catalogue text (record { catalogue = catalogue; quants = record { name = t.name; table = 0 } ∷ []; select = record { quant = record { 0 = 0 }; column = 0 } ∷ []; preds = []; order = []; site = None }) }
+{}
