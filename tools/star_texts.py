@@ -231,7 +231,7 @@ class Names:
     """The names of a catalogue, by which a query finds their positions."""
 
     def __init__(self):
-        self.sites, self.tables, self.columns = [], [], {}
+        self.sites, self.tables, self.columns, self.indexes = [], [], {}, []
 
 
 def catalogue(text):
@@ -273,6 +273,7 @@ def catalogue(text):
                 f" file = {codes(file[1:-1])}; columns = {list_of(columns)} }}"
             )
         else:
+            names.indexes.append(name)
             reader.expect("on")
             table = reader.next()
             reader.expect("(")
@@ -373,6 +374,100 @@ def query(text, catalogue_name, names):
     """A query over the catalogue of this name, which has these names; and its quantifiers with their tables."""
     reader = QueryReader(text, names)
     return reader.query(catalogue_name), reader.quantifiers
+
+
+class VectorReader(QueryReader):
+    """Reads vectors and operators over them, as the table of operators writes them."""
+
+    def __init__(self, text, names, quantifiers, vectors):
+        super().__init__(text, names, quantifiers)
+        self.vectors = vectors
+
+    def yes(self):
+        return "true" if self.next() == "yes" else "false"
+
+    def column_set(self):
+        """A list of columns as a set: for each of 12 quantifiers the mask of its columns."""
+        masks = [0] * 12
+        for term in re.findall(r"0 = (\d+) }; column = (\d+)", self.columns()):
+            masks[int(term[0])] |= 1 << int(term[1])
+        return list_of([str(mask) for mask in masks])
+
+    def fields(self):
+        readers = {
+            "tables": self.set,
+            "cols": self.column_set,
+            "preds": self.set,
+            "order": self.columns,
+            "site": self.site,
+            "temp": self.yes,
+            "path": self.columns,
+            "card": self.next,
+            "cost": self.next,
+            "rescan": self.next,
+        }
+        fields = []
+        while self.peek() in readers:
+            field = self.next()
+            fields.append(f"{field} = {readers[field]()}")
+        return "{ " + "; ".join(fields) + " }"
+
+    def vector(self):
+        """A vector, or one that has a name, with other fields or not."""
+        if self.peek() == "tables":
+            return f"record {self.fields()}"
+        name = self.vectors[self.next()]
+        return f"(record {name} {self.fields()})" if self.take("with") else name
+
+    def optional(self):
+        return "None" if self.take("none") else f"Some ({self.vector()})"
+
+    def requirement(self):
+        self.expect("order")
+        order = self.columns()
+        self.expect("site")
+        site = "None" if self.take("none") else f"Some ({self.site()})"
+        self.expect("temp")
+        temp = self.yes()
+        self.expect("path")
+        return f"record {{ order = {order}; site = {site}; temp = {temp}; path = {self.columns()} }}"
+
+    def chain(self):
+        words = []
+        while self.peek() != ")":
+            words.append(f"glue.{self.next().title()}")
+        return list_of(words)
+
+    def index(self):
+        return str(self.names.indexes.index(self.next()))
+
+    def operator(self):
+        """An operator with its arguments, and its inputs."""
+        flavour, count = FLAVOURS[self.next()]
+        arguments = {
+            "AccessHeap": [self.set, self.set],
+            "AccessIndex": [self.set, self.index, self.set],
+            "Get": [self.set, self.set],
+            "Sort": [self.columns],
+            "Store": [self.columns],
+            "Ship": [lambda: f"({self.site()})"],
+            "Probe": [self.columns, self.set],
+            "JoinMerge": [self.set, self.set],
+            "JoinHash": [self.set, self.set],
+        }.get(flavour, [self.set])
+        parts = self.parts([self.vector] * count + arguments)
+        return f"(op.{flavour} {' '.join(parts[count:])})", list_of(parts[:count])
+
+    def parts(self, readers):
+        """What stands in brackets, between commas."""
+        self.expect("(")
+        parts = []
+        for reader in readers:
+            if parts:
+                self.expect(",")
+            parts.append(str(reader()))
+        self.expect(")")
+        return parts
 
 
 class DerivationReader(Reader):

@@ -5,3 +5,4 @@ pub mod Derivations
 pub mod Claims
 pub mod Formulas
 pub mod Values
+pub mod Operators
