@@ -1,6 +1,7 @@
 """Reads rule files, catalogues, queries and derivations, and writes them as terms of antt.
 
-It takes texts for granted: what is wrong in one ends the script. It shares no code with the readers that are proved.
+A case of a type that holds itself is a pattern of star_model, as f.Add; one without such parts is the plain variant, as
+formula.Number. It takes texts for granted: what is wrong in one ends the script. It shares no code with the readers that are proved.
 """
 import re
 
@@ -67,6 +68,13 @@ class Reader:
         self.at += found
         return found
 
+    def set(self):
+        """A set of numbers from 1, as the number whose bits they are."""
+        self.expect("{")
+        members = 0 if self.peek() == "}" else sum(1 << (int(number) - 1) for number in self.several(self.next))
+        self.expect("}")
+        return members
+
     def several(self, one, between=","):
         items = [one()]
         while self.take(between):
@@ -112,7 +120,7 @@ class RuleReader(Reader):
             right = self.formula()
             self.expect(")")
             return f"(f.{word.title()} {left} {right})"
-        return f"(f.Number {word})" if word.isdigit() else f"(f.Variable var.{VARIABLES[word]})"
+        return f"(formula.Number {word})" if word.isdigit() else f"(formula.Variable var.{VARIABLES[word]})"
 
     # ---- values, conditions and plans, where these names have places
 
@@ -127,10 +135,10 @@ class RuleReader(Reader):
         if word in FUNCTIONS:
             term = f"(v.{word.title()} {' '.join(self.arguments(names))})"
         elif word in WORDS:
-            term = f"v.{WORDS[word]}"
+            term = f"value.{WORDS[word]}"
         else:
             place = names.index(word) if word in names else NO_PLACE
-            term = f"(v.Variable ({codes(word)}) {place})"
+            term = f"(value.Variable ({codes(word)}) {place})"
         while self.take("["):
             what = self.next()
             term = f"(v.WithTemp {term})" if what == "temp" else f"(v.With{what.title()} {term} {self.value(names)})"
@@ -144,15 +152,15 @@ class RuleReader(Reader):
             parts = self.several(lambda: self.condition(names))
             self.expect(")")
         else:
-            parts = self.arguments(names)
+            return f"(condition.{word.title()} {' '.join(self.arguments(names))})"
         return f"(c.{word.title()} {' '.join(parts)})"
 
     def plan(self, names):
         word = self.next()
         if word == "Glue":
-            return f"(e.Glue {' '.join(self.arguments(names))})"
+            return f"(plan.Glue {' '.join(self.arguments(names))})"
         if word not in FLAVOURS:
-            return f"(e.Reference ({codes(word)}) {list_of(self.arguments(names))})"
+            return f"(plan.Reference ({codes(word)}) {list_of(self.arguments(names))})"
         flavour, count = FLAVOURS[word]
         self.expect("(")
         inputs, values = [], []
@@ -163,16 +171,14 @@ class RuleReader(Reader):
                 inputs.append(self.plan(names))
             else:
                 values.append(self.value(names))
-        return f"({' '.join([('e.Leaf', 'e.Unary', 'e.Binary')[count], f'flavour.{flavour}', list_of(values), *inputs])})"
+        return f"({' '.join([('plan.Leaf', 'e.Unary', 'e.Binary')[count], f'flavour.{flavour}', list_of(values), *inputs])})"
 
     # ---- statements
 
     def for_all(self, names):
         name = self.next()
         self.expect("in")
-        what = self.next()
-        of = "" if what == "sites" else f" {self.arguments(names)[0]}"
-        return name, f"record {{ name = {codes(name)}; range = range.{what.title()}{of} }}"
+        return name, f"record {{ name = {codes(name)}; range = {self.range(names)} }}"
 
     def alternative(self, names):
         names, ranges = list(names), []
@@ -194,6 +200,11 @@ class RuleReader(Reader):
         self.expect(";")
         kinds = [f"record {{ name = {codes(parameter)}; kind = kind.{kind.title()} }}" for parameter, kind in parameters]
         return f"record {{ statement = {statement}; name = {codes(name)}; params = {list_of(kinds)}; alternatives = {list_of(alternatives)} }}"
+
+    def range(self, names):
+        what = self.next()
+        of = "" if what == "sites" else f" {self.arguments(names)[0]}"
+        return f"range.{what.title()}{of}"
 
     def formula_statement(self, statement, which):
         flavour = FLAVOURS[self.next()][0]
@@ -220,7 +231,7 @@ class Names:
     """The names of a catalogue, by which a query finds their positions."""
 
     def __init__(self):
-        self.sites, self.tables, self.columns = [], [], {}
+        self.sites, self.tables, self.columns, self.indexes = [], [], {}, []
 
 
 def catalogue(text):
@@ -262,6 +273,7 @@ def catalogue(text):
                 f" file = {codes(file[1:-1])}; columns = {list_of(columns)} }}"
             )
         else:
+            names.indexes.append(name)
             reader.expect("on")
             table = reader.next()
             reader.expect("(")
@@ -275,9 +287,11 @@ def catalogue(text):
 
 
 class QueryReader(Reader):
-    def __init__(self, text, names):
+    """Reads what names the columns and sites of a query, once its quantifiers are known."""
+
+    def __init__(self, text, names, quantifiers=()):
         super().__init__(text)
-        self.names, self.quantifiers = names, []
+        self.names, self.quantifiers = names, list(quantifiers)
 
     def column(self):
         quantifier = self.next()
@@ -285,6 +299,34 @@ class QueryReader(Reader):
         number = [name for name, _ in self.quantifiers].index(quantifier)
         column = self.names.columns[self.quantifiers[number][1]].index(self.next())
         return f"record {{ quant = record {{ 0 = {number} }}; column = {column} }}"
+
+    def columns(self):
+        self.expect("[")
+        columns = [] if self.peek() == "]" else self.several(self.column)
+        self.expect("]")
+        return list_of(columns)
+
+    def site(self):
+        return f"record {{ 0 = {self.names.sites.index(self.next())} }}"
+
+    def rule_value(self):
+        """A value of the rule language, as the tables of this folder write it."""
+        kind = self.next()
+        if kind == "stream":
+            tables = self.set()
+            order = self.columns() if self.take("order") else "[]"
+            site = f"Some ({self.site()})" if self.take("site") else "None"
+            temp = "true" if self.take("temp") else "false"
+            path = self.columns() if self.take("path") else "[]"
+            return f"is.Stream (record {{ tables = {tables}; require = record {{ order = {order}; site = {site}; temp = {temp}; path = {path} }} }})"
+        if kind in ("quants", "preds"):
+            return f"is.{kind.title()} {self.set()}"
+        if kind == "cols":
+            return f"is.Cols {self.columns()}"
+        if kind == "site":
+            return f"is.Site ({self.site()})"
+        assert kind == "index", kind
+        return f"is.Index {int(self.next()) - 1}"
 
     def quantifier(self):
         table = self.next()
@@ -319,7 +361,7 @@ class QueryReader(Reader):
         if self.take("order"):
             self.expect("by")
             order = self.several(self.column)
-        site = f"Some (record {{ 0 = {self.names.sites.index(self.next())} }})" if self.take("at") else "None"
+        site = f"Some ({self.site()})" if self.take("at") else "None"
         self.expect(";")
         quantifiers = [f"record {{ name = {codes(name)}; table = {self.names.tables.index(table)} }}" for name, table in self.quantifiers]
         return (
@@ -329,18 +371,106 @@ class QueryReader(Reader):
 
 
 def query(text, catalogue_name, names):
-    """A query over the catalogue of this name, which has these names."""
-    return QueryReader(text, names).query(catalogue_name)
+    """A query over the catalogue of this name, which has these names; and its quantifiers with their tables."""
+    reader = QueryReader(text, names)
+    return reader.query(catalogue_name), reader.quantifiers
+
+
+class VectorReader(QueryReader):
+    """Reads vectors and operators over them, as the table of operators writes them."""
+
+    def __init__(self, text, names, quantifiers, vectors):
+        super().__init__(text, names, quantifiers)
+        self.vectors = vectors
+
+    def yes(self):
+        return "true" if self.next() == "yes" else "false"
+
+    def column_set(self):
+        """A list of columns as a set: for each of 12 quantifiers the mask of its columns."""
+        masks = [0] * 12
+        for term in re.findall(r"0 = (\d+) }; column = (\d+)", self.columns()):
+            masks[int(term[0])] |= 1 << int(term[1])
+        return list_of([str(mask) for mask in masks])
+
+    def fields(self):
+        readers = {
+            "tables": self.set,
+            "cols": self.column_set,
+            "preds": self.set,
+            "order": self.columns,
+            "site": self.site,
+            "temp": self.yes,
+            "path": self.columns,
+            "card": self.next,
+            "cost": self.next,
+            "rescan": self.next,
+        }
+        fields = []
+        while self.peek() in readers:
+            field = self.next()
+            fields.append(f"{field} = {readers[field]()}")
+        return "{ " + "; ".join(fields) + " }"
+
+    def vector(self):
+        """A vector, or one that has a name, with other fields or not."""
+        if self.peek() == "tables":
+            return f"record {self.fields()}"
+        name = self.vectors[self.next()]
+        return f"(record {name} {self.fields()})" if self.take("with") else name
+
+    def optional(self):
+        return "None" if self.take("none") else f"Some ({self.vector()})"
+
+    def requirement(self):
+        self.expect("order")
+        order = self.columns()
+        self.expect("site")
+        site = "None" if self.take("none") else f"Some ({self.site()})"
+        self.expect("temp")
+        temp = self.yes()
+        self.expect("path")
+        return f"record {{ order = {order}; site = {site}; temp = {temp}; path = {self.columns()} }}"
+
+    def chain(self):
+        words = []
+        while self.peek() != ")":
+            words.append(f"glue.{self.next().title()}")
+        return list_of(words)
+
+    def index(self):
+        return str(self.names.indexes.index(self.next()))
+
+    def operator(self):
+        """An operator with its arguments, and its inputs."""
+        flavour, count = FLAVOURS[self.next()]
+        arguments = {
+            "AccessHeap": [self.set, self.set],
+            "AccessIndex": [self.set, self.index, self.set],
+            "Get": [self.set, self.set],
+            "Sort": [self.columns],
+            "Store": [self.columns],
+            "Ship": [lambda: f"({self.site()})"],
+            "Probe": [self.columns, self.set],
+            "JoinMerge": [self.set, self.set],
+            "JoinHash": [self.set, self.set],
+        }.get(flavour, [self.set])
+        parts = self.parts([self.vector] * count + arguments)
+        return f"(op.{flavour} {' '.join(parts[count:])})", list_of(parts[:count])
+
+    def parts(self, readers):
+        """What stands in brackets, between commas."""
+        self.expect("(")
+        parts = []
+        for reader in readers:
+            if parts:
+                self.expect(",")
+            parts.append(str(reader()))
+        self.expect(")")
+        return parts
 
 
 class DerivationReader(Reader):
-    def numbers(self):
-        """A set of numbers from 1, as the number whose bits they are."""
-        self.expect("{")
-        members = 0 if self.peek() == "}" else sum(1 << (int(number) - 1) for number in self.several(self.next))
-        self.expect("}")
-        return members
-
     def rest_of_statement(self):
         words = []
         while not self.take(";"):
@@ -353,10 +483,10 @@ class DerivationReader(Reader):
             chain = list_of([f"glue.{operator.title()}" for operator in self.rest_of_statement()])
             return f"(d.Glue {chain} {self.node()})"
         if word == "goal":
-            tables = self.numbers()
+            tables = self.set()
             self.expect("pushed")
-            goal = f"(record {{ tables = {tables}; pushed = {self.numbers()} }})"
-            split = f"(Some ({self.numbers()}, {self.numbers()}))" if self.take("split") else "None"
+            goal = f"(record {{ tables = {tables}; pushed = {self.set()} }})"
+            split = f"(Some ({self.set()}, {self.set()}))" if self.take("split") else "None"
             self.expect(";")
             return f"(d.Goal {goal} {split} {self.node()})"
         if word == "ref":
@@ -365,7 +495,7 @@ class DerivationReader(Reader):
         flavour, count = FLAVOURS[word]
         self.expect(";")
         inputs = [self.node() for _ in range(count)]
-        return f"({' '.join([('d.Leaf', 'd.Unary', 'd.Binary')[count], f'flavour.{flavour}', *inputs])})"
+        return f"({' '.join([('derivation.Leaf', 'd.Unary', 'd.Binary')[count], f'flavour.{flavour}', *inputs])})"
 
 
 def derivation(text):
@@ -379,6 +509,6 @@ def goal(text):
     """The sets of the goal that a text begins with."""
     reader = DerivationReader(text)
     reader.expect("goal")
-    tables = reader.numbers()
+    tables = reader.set()
     reader.expect("pushed")
-    return tables, reader.numbers()
+    return tables, reader.set()

@@ -1,6 +1,6 @@
 -- Written by tools/worked_plans.
 -- The catalogues of the worked plans.
-use Rattle.std.specs.Prelude.{List, [], ◌∷◌, Option, Some, None, codes}
+use Rattle.std.specs.Prelude.{[], ◌∷◌, codes}
 use Rattle.star_model.specs.declared.catalogue.ColType.TheVariants as type
 use Rattle.star_model.specs.declared.catalogue.Catalogue.{Catalogue}
 

@@ -1,6 +1,6 @@
 -- Written by tools/worked_plans.
 -- The queries of the worked plans.
-use Rattle.std.specs.Prelude.{List, [], ◌∷◌, Option, Some, None, codes, pos}
+use Rattle.std.specs.Prelude.{[], ◌∷◌, Some, None, codes, pos}
 use Rattle.star_model.specs.declared.catalogue.Value.TheVariants as constant
 use Rattle.star_model.specs.declared.query.Query.{Query}
 use Rattle.star_model.specs.declared.query.Cmp.TheVariants as cmp
@@ -190,6 +190,16 @@ t = record {
 abbrev pub t_filled : Query
 t_filled = record {
   catalogue = catalogue.t_filled;
+  quants = (record { name = codes "t"; table = 0 } ∷ []);
+  select = (record { quant = record { 0 = 0 }; column = 0 } ∷ []);
+  preds = [];
+  order = [];
+  site = None;
+}
+
+abbrev pub unshipped : Query
+unshipped = record {
+  catalogue = catalogue.two_sites;
   quants = (record { name = codes "t"; table = 0 } ∷ []);
   select = (record { quant = record { 0 = 0 }; column = 0 } ∷ []);
   preds = [];
