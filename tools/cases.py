@@ -43,7 +43,6 @@ DEFINITIONS = {
     "Judging": [
         ("node_count", "Deriv", "node_count_cases"),
         ("judge", "Deriv", "judge_cases"),
-        ("judge_root", "Deriv", "judge_root_cases"),
     ],
     "Accepted": [
         ("values_in", "PlanExpr", "values_in_cases"),
