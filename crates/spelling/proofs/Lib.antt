@@ -17,3 +17,4 @@ mod FormulaLaws
 mod RuleLaws
 mod Thin
 pub mod Laws
+mod ReadingLaws

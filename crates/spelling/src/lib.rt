@@ -6,4 +6,4 @@ mod cursor;
 pub mod theorems;
 pub mod words;
 
-pub use cursor::{Cursor, same_lexeme};
+pub use cursor::{Cursor, same_lexeme, text_bytes};

@@ -1,16 +1,18 @@
 // The laws of the definitions, each the clause of a function that does nothing.
 
-ghost use Rattle.std.specs.Prelude.{◌≡◌, ℕ, List, [], ◌∷◌, map, true, None};
+ghost use Rattle.std.specs.Prelude.{◌≡◌, ◌↔◌, ℕ, List, [], ◌∷◌, map, true, None, Some};
 ghost use Rattle.sb_text.specs.declared.token.Token.{Token};
 ghost use Rattle.sb_text.specs.Tokens.{lexed};
 ghost use Rattle.sb_text.specs.Statements.{parts};
-ghost use Rattle.spelling.specs.Lexemes.{Lexeme, IsStatements, lexemes_of, HasItem};
+ghost use Rattle.spelling.specs.Lexemes.{Lexeme, Word, Number, Text, Symbol, IsStatements, lexemes_of, HasItem};
+ghost use Rattle.spelling.specs.Reading.{the_word, the_symbol, a_word, a_number, a_text};
 ghost use Rattle.spelling.specs.Derivations.{SpellsDerivation};
 ghost use Rattle.spelling.specs.Catalogues.{CatalogueStatement, Site, Table, TablePart, table_from, catalogue_lexemes, SpellsCatalogueStatement, SpellsCatalogue};
 ghost use Rattle.spelling.specs.Queries.{QueryStatement, only_column, query_lexemes, IsFree, SpellsQueryStatement, SpellsQuery};
 ghost use Rattle.spelling.specs.Formulas.{SpellsFormula, formula_lexemes};
 ghost use Rattle.spelling.specs.Rules.{SpellsStar, SpellsFormulaDef, formula_def_lexemes, SpellsRules};
 ghost use Rattle.spelling.specs.Tiny.{tiny_lexemes, tiny_rules};
+ghost use Rattle.star_model.specs.Vectors.{same_numbers};
 ghost use Rattle.star_model.specs.declared.catalogue.Catalogue.{Catalogue};
 ghost use Rattle.star_model.specs.declared.catalogue.SiteDef.{SiteDef};
 ghost use Rattle.star_model.specs.declared.catalogue.TableDef.{TableDef};
@@ -76,4 +78,18 @@ pub fn smallest_texts_spell()
     ensures query { (catalogue : Catalogue) (text : List ℕ) (t : TableDef) (c : ColumnDef) → catalogue.tables ≡ t ∷ [] → t.columns ≡ c ∷ [] → IsFree t.name
         → IsStatements text (query_lexemes (only_column t.name c.name) ∷ [])
         → SpellsQuery catalogue text (record { catalogue = catalogue; quants = record { name = t.name; table = 0 } ∷ []; select = record { quant = record { 0 = 0 }; column = 0 } ∷ []; preds = []; order = []; site = None }) }
+{}
+
+/// What is read from the front of a list of lexemes stood there, and nothing else is read.
+pub fn readers_read()
+    ensures the_word { (wanted : List ℕ) (lexemes rest : List Lexeme) → (the_word wanted lexemes ≡ Some (tt, rest)) ↔ (lexemes ≡ Word wanted ∷ rest) }
+    ensures the_symbol { (wanted : List ℕ) (lexemes rest : List Lexeme) → (the_symbol wanted lexemes ≡ Some (tt, rest)) ↔ (lexemes ≡ Symbol wanted ∷ rest) }
+    ensures a_word { (lexemes rest : List Lexeme) (bytes : List ℕ) → (a_word lexemes ≡ Some (bytes, rest)) ↔ (lexemes ≡ Word bytes ∷ rest) }
+    ensures a_number { (lexemes rest : List Lexeme) (n : ℕ) → (a_number lexemes ≡ Some (n, rest)) ↔ (lexemes ≡ Number n ∷ rest) }
+    ensures a_text { (lexemes rest : List Lexeme) (bytes : List ℕ) → (a_text lexemes ≡ Some (bytes, rest)) ↔ (lexemes ≡ Text bytes ∷ rest) }
+{}
+
+/// The test of bytes decides that they are the same.
+pub fn same_numbers_are_same()
+    ensures { (a b : List ℕ) → (same_numbers a b ≡ true) ↔ (a ≡ b) }
 {}
