@@ -17,3 +17,5 @@ mod FormulaLaws
 mod RuleLaws
 mod Thin
 pub mod Laws
+mod Signs
+mod WritingLaws
