@@ -1,5 +1,6 @@
 -- The laws that other crates may cite. Each is the clause of a function of the module `theorems`.
 pub use Rattle.spelling.proofs.Statements.{one_list, statements_of_tokens, same_self}
+pub use Rattle.spelling.proofs.WritingLaws.{ended-line, lines-layout, puts-none, puts-more, puts-append, lines-none, lines-more, lines-append, writing}
 pub use Rattle.spelling.proofs.DerivationLaws.{one_derivation}
 pub use Rattle.spelling.proofs.CatalogueLaws.{one_catalogue_statement, one_catalogue}
 pub use Rattle.spelling.proofs.QueryLaws.{one_query_statement, one_query}

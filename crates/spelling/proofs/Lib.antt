@@ -18,3 +18,5 @@ mod RuleLaws
 mod Thin
 pub mod Laws
 mod ReadingLaws
+mod Signs
+mod WritingLaws

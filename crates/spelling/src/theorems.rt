@@ -1,11 +1,13 @@
 // The laws of the definitions, each the clause of a function that does nothing.
 
-ghost use Rattle.std.specs.Prelude.{◌≡◌, ◌↔◌, ℕ, List, [], ◌∷◌, map, true, None, Some};
+ghost use Rattle.std.specs.Prelude.{◌≡◌, ◌↔◌, ℕ, List, [], ◌∷◌, ◌++◌, map, true, None, Some};
 ghost use Rattle.sb_text.specs.declared.token.Token.{Token};
 ghost use Rattle.sb_text.specs.Tokens.{lexed};
 ghost use Rattle.sb_text.specs.Statements.{parts};
 ghost use Rattle.spelling.specs.Lexemes.{Lexeme, Word, Number, Text, Symbol, IsStatements, lexemes_of, HasItem};
+ghost use Rattle.spelling.specs.Layout.{line, layout};
 ghost use Rattle.spelling.specs.Reading.{the_word, the_symbol, a_word, a_number, a_text};
+ghost use Rattle.spelling.specs.Writing.{Written, whole, put, puts, ended, lines};
 ghost use Rattle.spelling.specs.Derivations.{SpellsDerivation};
 ghost use Rattle.spelling.specs.Catalogues.{CatalogueStatement, Site, Table, TablePart, table_from, catalogue_lexemes, SpellsCatalogueStatement, SpellsCatalogue};
 ghost use Rattle.spelling.specs.Queries.{QueryStatement, only_column, query_lexemes, IsFree, SpellsQueryStatement, SpellsQuery};
@@ -32,6 +34,22 @@ pub fn one_list_of_statements()
 /// The statements of a text whose tokens are known.
 pub fn statements_come_from_tokens()
     ensures { (text : List ℕ) (tokens : List Token) (list : List (List Token)) → lexed text ≡ (tokens, None) → parts tokens ≡ map (λ ts. (ts, true)) list → IsStatements text (map (lexemes_of text) list) }
+{}
+
+/// Statements that are written one after the other, lexeme by lexeme, stand in canonical layout.
+pub fn what_is_written_is_in_layout()
+    ensures statement { (text : List ℕ) (statement : List Lexeme) → ended (puts (whole text) statement) ≡ whole (text ++ line statement) }
+    ensures text { (text : List ℕ) (statements : List (List Lexeme)) → lines (whole text) statements ≡ whole (text ++ layout statements) }
+{}
+
+/// What it comes to that lexemes and statements are written one after the other.
+pub fn writing_goes_on()
+    ensures none { (w : Written) → puts w [] ≡ w }
+    ensures more { (w : Written) (x : Lexeme) (xs : List Lexeme) → puts w (x ∷ xs) ≡ puts (put w x) xs }
+    ensures append { (w : Written) (xs ys : List Lexeme) → puts w (xs ++ ys) ≡ puts (puts w xs) ys }
+    ensures no_lines { (w : Written) → lines w [] ≡ w }
+    ensures more_lines { (w : Written) (statement : List Lexeme) (later : List (List Lexeme)) → lines w (statement ∷ later) ≡ lines (ended (puts w statement)) later }
+    ensures append_lines { (w : Written) (early later : List (List Lexeme)) → lines w (early ++ later) ≡ lines (lines w early) later }
 {}
 
 /// One text spells at most one derivation.
