@@ -5,67 +5,82 @@ ghost use Rattle.worked_plans.specs.Queries as query;
 ghost use Rattle.worked_plans.specs.RuleFiles as rules;
 ghost use Rattle.worked_plans.specs.Operators as row;
 
-/// The operators of the table for `cities.query`, with the costs of `standard.rules`.
-pub fn steps_in_cities()
-    ensures { StepsAs query.cities rules.standard row.steps_in_cities }
+/// The rows of `steps` of the table for `cities.query`, with the costs of `standard.rules`.
+pub fn steps_of_cities_under_standard()
+    ensures { StepsAs query.cities rules.standard row.steps_of_cities_under_standard }
 {}
 
-/// The rows of `better` of the table for `cities.query`.
-pub fn better_in_cities()
-    ensures { AreBetterAs row.better_in_cities }
+/// The rows of `better` of the table for `cities.query`, with the costs of `standard.rules`.
+pub fn better_of_cities_under_standard()
+    ensures { AreBetterAs row.better_of_cities_under_standard }
 {}
 
-/// The rows of `satisfies` of the table for `cities.query`.
-pub fn satisfies_in_cities()
-    ensures { SatisfyAs row.satisfies_in_cities }
+/// The rows of `satisfies` of the table for `cities.query`, with the costs of `standard.rules`.
+pub fn satisfies_of_cities_under_standard()
+    ensures { SatisfyAs row.satisfies_of_cities_under_standard }
 {}
 
-/// The rows of `target` of the table for `cities.query`.
-pub fn target_in_cities()
-    ensures { MeetAs query.cities row.target_in_cities }
+/// The rows of `target` of the table for `cities.query`, with the costs of `standard.rules`.
+pub fn target_of_cities_under_standard()
+    ensures { MeetAs query.cities row.target_of_cities_under_standard }
 {}
 
-/// The rows of `chain` of the table for `cities.query`.
-pub fn chain_in_cities()
-    ensures { AreChainsAs row.chain_in_cities }
+/// The rows of `chain` of the table for `cities.query`, with the costs of `standard.rules`.
+pub fn chain_of_cities_under_standard()
+    ensures { AreChainsAs row.chain_of_cities_under_standard }
 {}
 
-/// The rows of `card` of the table for `cities.query`.
-pub fn card_in_cities()
-    ensures { HasCards query.cities row.card_in_cities }
+/// The rows of `card` of the table for `cities.query`, with the costs of `standard.rules`.
+pub fn card_of_cities_under_standard()
+    ensures { HasCards query.cities row.card_of_cities_under_standard }
 {}
 
-/// The operators of the table for `names_of_department.query`, with the costs of `standard.rules`.
-pub fn steps_in_names_of_department()
-    ensures { StepsAs query.names_of_department rules.standard row.steps_in_names_of_department }
+/// The rows of `steps` of the table for `names_of_department.query`, with the costs of `standard.rules`.
+pub fn steps_of_names_of_department_under_standard()
+    ensures { StepsAs query.names_of_department rules.standard row.steps_of_names_of_department_under_standard }
 {}
 
-/// The rows of `card` of the table for `names_of_department.query`.
-pub fn card_in_names_of_department()
-    ensures { HasCards query.names_of_department row.card_in_names_of_department }
+/// The rows of `card` of the table for `names_of_department.query`, with the costs of `standard.rules`.
+pub fn card_of_names_of_department_under_standard()
+    ensures { HasCards query.names_of_department row.card_of_names_of_department_under_standard }
 {}
 
-/// The operators of the table for `french_orders.query`, with the costs of `standard.rules`.
-pub fn steps_in_french_orders()
-    ensures { StepsAs query.french_orders rules.standard row.steps_in_french_orders }
+/// The rows of `steps` of the table for `french_orders.query`, with the costs of `standard.rules`.
+pub fn steps_of_french_orders_under_standard()
+    ensures { StepsAs query.french_orders rules.standard row.steps_of_french_orders_under_standard }
 {}
 
-/// The rows of `satisfies` of the table for `french_orders.query`.
-pub fn satisfies_in_french_orders()
-    ensures { SatisfyAs row.satisfies_in_french_orders }
+/// The rows of `satisfies` of the table for `french_orders.query`, with the costs of `standard.rules`.
+pub fn satisfies_of_french_orders_under_standard()
+    ensures { SatisfyAs row.satisfies_of_french_orders_under_standard }
 {}
 
-/// The rows of `better` of the table for `french_orders.query`.
-pub fn better_in_french_orders()
-    ensures { AreBetterAs row.better_in_french_orders }
+/// The rows of `better` of the table for `french_orders.query`, with the costs of `standard.rules`.
+pub fn better_of_french_orders_under_standard()
+    ensures { AreBetterAs row.better_of_french_orders_under_standard }
 {}
 
-/// The rows of `card` of the table for `french_orders.query`.
-pub fn card_in_french_orders()
-    ensures { HasCards query.french_orders row.card_in_french_orders }
+/// The rows of `card` of the table for `french_orders.query`, with the costs of `standard.rules`.
+pub fn card_of_french_orders_under_standard()
+    ensures { HasCards query.french_orders row.card_of_french_orders_under_standard }
 {}
 
-/// The operators of the table for `shipped.query`, with the costs of `heaps.rules`.
-pub fn steps_in_shipped()
-    ensures { StepsAs query.shipped rules.heaps row.steps_in_shipped }
+/// The rows of `steps` of the table for `shipped.query`, with the costs of `heaps.rules`.
+pub fn steps_of_shipped_under_heaps()
+    ensures { StepsAs query.shipped rules.heaps row.steps_of_shipped_under_heaps }
+{}
+
+/// The rows of `steps` of the table for `generated.query`, with the costs of `variables.rules`.
+pub fn steps_of_generated_under_variables()
+    ensures { StepsAs query.generated rules.variables row.steps_of_generated_under_variables }
+{}
+
+/// The rows of `steps` of the table for `shipped.query`, with the costs of `variables.rules`.
+pub fn steps_of_shipped_under_variables()
+    ensures { StepsAs query.shipped rules.variables row.steps_of_shipped_under_variables }
+{}
+
+/// The rows of `steps` of the table for `two_tables.query`, with the costs of `variables.rules`.
+pub fn steps_of_two_tables_under_variables()
+    ensures { StepsAs query.two_tables rules.variables row.steps_of_two_tables_under_variables }
 {}
