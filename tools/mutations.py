@@ -1,5 +1,15 @@
 """Changes of meaning for tools/mutate: the file of specs/, what is changed, the old text, which stands there once, and the new."""
 
+# the module of the worked plans that is to see a change of a file
+TABLES = {
+    **dict.fromkeys(("Numbers", "Formulas", "Monotone"), "formulas"),
+    **dict.fromkeys(("Sets", "Predicates", "Meaning"), "values"),
+    **dict.fromkeys(("Cardinality", "Vectors", "Operators", "Plans", "Goals"), "operators"),
+    **dict.fromkeys(("Expected", "Stars", "Judging"), "plans"),
+    **dict.fromkeys(("Accepted", "Kinds"), "rule_files"),
+    **dict.fromkeys(("WellFormed", "Data", "Answers"), "tables"),
+}
+
 CHANGES = [
     # numbers and formulas
     ("Numbers", "a sum isn't cut", "cut_sum a b = cut (a + b)", "cut_sum a b = a + b"),

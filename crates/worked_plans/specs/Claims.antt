@@ -13,6 +13,8 @@ use Rattle.star_model.specs.Plans.{is_chain}
 use Rattle.star_model.specs.Goals.{is_target}
 use Rattle.star_model.specs.Expected.{ForGoal}
 use Rattle.star_model.specs.Judging.{Judgement, Vector, FirstInvalid, judge, judge_root}
+use Rattle.star_model.specs.Kinds.{kind_of, kind_of_range, is_kinded}
+use Rattle.star_model.specs.declared.rules.Kind.{Kind}
 use Rattle.star_model.specs.Accepted.{is_unknown, is_star_twice, is_formula_twice, has_wrong_arity, has_wrong_kind, lacks_root, lacks_formula, height_of, weight_of}
 use Rattle.star_model.specs.declared.faults.RuleFault.{RuleFault}
 use Rattle.star_model.specs.declared.faults.RuleFault.TheVariants as fault
@@ -64,6 +66,18 @@ HoldAs query bindings rows = map (λ row. holds query bindings row.0) rows ≡ m
 -- the members of ranges, in their order
 abbrev pub RangeAs : Query → List RuleValue → List (Range × List RuleValue) → Type 0
 RangeAs query bindings rows = map (λ row. members_of query bindings row.0) rows ≡ map (λ row. row.1) rows
+
+-- the kinds of expressions, where names have these kinds
+abbrev pub HaveKinds : List Kind → List (ValueExpr × Option Kind) → Type 0
+HaveKinds bound rows = map (λ row. kind_of bound row.0) rows ≡ map (λ row. row.1) rows
+
+-- the kinds of the members of ranges
+abbrev pub RangeOverKinds : List Kind → List (Range × Option Kind) → Type 0
+RangeOverKinds bound rows = map (λ row. kind_of_range bound row.0) rows ≡ map (λ row. row.1) rows
+
+-- whether conditions are well kinded
+abbrev pub AreKinded : List Kind → List (Condition × Bool) → Type 0
+AreKinded bound rows = map (λ row. is_kinded bound row.0) rows ≡ map (λ row. row.1) rows
 
 -- the operators, in the order of their table
 abbrev pub flavours : List Flavour
