@@ -86,46 +86,78 @@ near_of_shipped_under_variables = record { tables = 1; cols = (1 ∷ 0 ∷ 0 ∷
 abbrev pub n_of_two_tables_under_variables : Props
 n_of_two_tables_under_variables = record { tables = 1; cols = (3 ∷ 0 ∷ 0 ∷ 0 ∷ 0 ∷ 0 ∷ 0 ∷ 0 ∷ 0 ∷ 0 ∷ 0 ∷ 0 ∷ []); preds = 0; order = []; site = record { 0 = 0 }; temp = false; path = []; card = 25; cost = 25001025000000001; rescan = 1000000000000033 }
 
-abbrev pub steps_of_cities_under_standard : List (Op × List Props × Option Props)
-steps_of_cities_under_standard =
+abbrev pub access_heap_of_cities_under_standard : List (Op × List Props × Option Props)
+access_heap_of_cities_under_standard =
     ((op.AccessHeap 1 0), [], Some (dept_of_cities_under_standard))
     ∷ ((op.AccessHeap 2 0), [], Some (emp_of_cities_under_standard))
-    ∷ ((op.AccessIndex 2 0 0), [], Some (by_index_of_cities_under_standard))
-    ∷ ((op.AccessIndex 2 0 1), [], Some (pushed_of_cities_under_standard))
-    ∷ ((op.Sort (record { quant = record { 0 = 0 }; column = 0 } ∷ [])), (dept_of_cities_under_standard ∷ []), Some (sorted_of_cities_under_standard))
-    ∷ ((op.Store (record { quant = record { 0 = 1 }; column = 1 } ∷ record { quant = record { 0 = 1 }; column = 0 } ∷ [])), (by_index_of_cities_under_standard ∷ []), Some (stored_of_cities_under_standard))
     ∷ ((op.AccessHeap 2 1), [], Some (record { tables = 2; cols = (0 ∷ 3 ∷ 0 ∷ 0 ∷ 0 ∷ 0 ∷ 0 ∷ 0 ∷ 0 ∷ 0 ∷ 0 ∷ 0 ∷ []); preds = 1; order = []; site = record { 0 = 0 }; temp = false; path = []; card = 100; cost = 2000; rescan = 2000 }))
     ∷ ((op.AccessHeap 1 1), [], Some (record { tables = 1; cols = (3 ∷ 0 ∷ 0 ∷ 0 ∷ 0 ∷ 0 ∷ 0 ∷ 0 ∷ 0 ∷ 0 ∷ 0 ∷ 0 ∷ []); preds = 1; order = []; site = record { 0 = 0 }; temp = false; path = []; card = 1; cost = 20; rescan = 20 }))
     ∷ ((op.AccessHeap 3 0), [], None)
     ∷ ((op.AccessHeap 0 0), [], None)
+    ∷ []
+
+abbrev pub access_index_of_cities_under_standard : List (Op × List Props × Option Props)
+access_index_of_cities_under_standard =
+    ((op.AccessIndex 2 0 0), [], Some (by_index_of_cities_under_standard))
+    ∷ ((op.AccessIndex 2 0 1), [], Some (pushed_of_cities_under_standard))
     ∷ ((op.AccessIndex 1 0 0), [], None)
     ∷ ((op.AccessIndex 3 0 0), [], None)
-    ∷ ((op.Get 2 0), (by_index_of_cities_under_standard ∷ []), Some (record { tables = 2; cols = (0 ∷ 3 ∷ 0 ∷ 0 ∷ 0 ∷ 0 ∷ 0 ∷ 0 ∷ 0 ∷ 0 ∷ 0 ∷ 0 ∷ []); preds = 0; order = (record { quant = record { 0 = 1 }; column = 1 } ∷ record { quant = record { 0 = 1 }; column = 0 } ∷ []); site = record { 0 = 0 }; temp = false; path = []; card = 1000; cost = 11210; rescan = 11210 }))
-    ∷ ((op.Get 2 1), (by_index_of_cities_under_standard ∷ []), Some (record { tables = 2; cols = (0 ∷ 3 ∷ 0 ∷ 0 ∷ 0 ∷ 0 ∷ 0 ∷ 0 ∷ 0 ∷ 0 ∷ 0 ∷ 0 ∷ []); preds = 1; order = (record { quant = record { 0 = 1 }; column = 1 } ∷ record { quant = record { 0 = 1 }; column = 0 } ∷ []); site = record { 0 = 0 }; temp = false; path = []; card = 100; cost = 12210; rescan = 12210 }))
-    ∷ ((op.Get 2 0), (pushed_of_cities_under_standard ∷ []), Some (record { tables = 2; cols = (0 ∷ 3 ∷ 0 ∷ 0 ∷ 0 ∷ 0 ∷ 0 ∷ 0 ∷ 0 ∷ 0 ∷ 0 ∷ 0 ∷ []); preds = 1; order = (record { quant = record { 0 = 1 }; column = 1 } ∷ record { quant = record { 0 = 1 }; column = 0 } ∷ []); site = record { 0 = 0 }; temp = false; path = []; card = 100; cost = 1130; rescan = 1130 }))
-    ∷ ((op.Get 1 0), (by_index_of_cities_under_standard ∷ []), None)
-    ∷ ((op.Get 2 0), (dept_of_cities_under_standard ∷ []), None)
-    ∷ ((op.Filter 1), (emp_of_cities_under_standard ∷ []), Some (record { tables = 2; cols = (0 ∷ 3 ∷ 0 ∷ 0 ∷ 0 ∷ 0 ∷ 0 ∷ 0 ∷ 0 ∷ 0 ∷ 0 ∷ 0 ∷ []); preds = 1; order = []; site = record { 0 = 0 }; temp = false; path = []; card = 100; cost = 3000; rescan = 3000 }))
-    ∷ ((op.Filter 0), (emp_of_cities_under_standard ∷ []), Some (record { tables = 2; cols = (0 ∷ 3 ∷ 0 ∷ 0 ∷ 0 ∷ 0 ∷ 0 ∷ 0 ∷ 0 ∷ 0 ∷ 0 ∷ 0 ∷ []); preds = 0; order = []; site = record { 0 = 0 }; temp = false; path = []; card = 1000; cost = 2000; rescan = 2000 }))
-    ∷ ((op.Filter 1), (pushed_of_cities_under_standard ∷ []), Some (record { tables = 2; cols = (0 ∷ 3 ∷ 0 ∷ 0 ∷ 0 ∷ 0 ∷ 0 ∷ 0 ∷ 0 ∷ 0 ∷ 0 ∷ 0 ∷ []); preds = 1; order = (record { quant = record { 0 = 1 }; column = 1 } ∷ record { quant = record { 0 = 1 }; column = 0 } ∷ []); site = record { 0 = 0 }; temp = false; path = []; card = 100; cost = 230; rescan = 230 }))
+    ∷ []
+
+abbrev pub sort_of_cities_under_standard : List (Op × List Props × Option Props)
+sort_of_cities_under_standard =
+    ((op.Sort (record { quant = record { 0 = 0 }; column = 0 } ∷ [])), (dept_of_cities_under_standard ∷ []), Some (sorted_of_cities_under_standard))
     ∷ ((op.Sort (record { quant = record { 0 = 1 }; column = 1 } ∷ [])), (emp_of_cities_under_standard ∷ []), Some (record { tables = 2; cols = (0 ∷ 3 ∷ 0 ∷ 0 ∷ 0 ∷ 0 ∷ 0 ∷ 0 ∷ 0 ∷ 0 ∷ 0 ∷ 0 ∷ []); preds = 0; order = (record { quant = record { 0 = 1 }; column = 1 } ∷ []); site = record { 0 = 0 }; temp = false; path = []; card = 1000; cost = 6000; rescan = 6000 }))
     ∷ ((op.Sort (record { quant = record { 0 = 1 }; column = 0 } ∷ [])), (by_index_of_cities_under_standard ∷ []), Some (record { tables = 2; cols = (0 ∷ 3 ∷ 0 ∷ 0 ∷ 0 ∷ 0 ∷ 0 ∷ 0 ∷ 0 ∷ 0 ∷ 0 ∷ 0 ∷ []); preds = 0; order = (record { quant = record { 0 = 1 }; column = 0 } ∷ []); site = record { 0 = 0 }; temp = false; path = []; card = 1000; cost = 5210; rescan = 5210 }))
     ∷ ((op.Sort []), (emp_of_cities_under_standard ∷ []), None)
     ∷ ((op.Sort (record { quant = record { 0 = 1 }; column = 2 } ∷ [])), (emp_of_cities_under_standard ∷ []), None)
     ∷ ((op.Sort (record { quant = record { 0 = 1 }; column = 0 } ∷ record { quant = record { 0 = 0 }; column = 0 } ∷ [])), (emp_of_cities_under_standard ∷ []), None)
+    ∷ []
+
+abbrev pub store_of_cities_under_standard : List (Op × List Props × Option Props)
+store_of_cities_under_standard =
+    ((op.Store (record { quant = record { 0 = 1 }; column = 1 } ∷ record { quant = record { 0 = 1 }; column = 0 } ∷ [])), (by_index_of_cities_under_standard ∷ []), Some (stored_of_cities_under_standard))
     ∷ ((op.Store []), (emp_of_cities_under_standard ∷ []), Some (record { tables = 2; cols = (0 ∷ 3 ∷ 0 ∷ 0 ∷ 0 ∷ 0 ∷ 0 ∷ 0 ∷ 0 ∷ 0 ∷ 0 ∷ 0 ∷ []); preds = 0; order = []; site = record { 0 = 0 }; temp = true; path = []; card = 1000; cost = 4000; rescan = 1000 }))
     ∷ ((op.Store (record { quant = record { 0 = 1 }; column = 1 } ∷ [])), (emp_of_cities_under_standard ∷ []), Some (record { tables = 2; cols = (0 ∷ 3 ∷ 0 ∷ 0 ∷ 0 ∷ 0 ∷ 0 ∷ 0 ∷ 0 ∷ 0 ∷ 0 ∷ 0 ∷ []); preds = 0; order = []; site = record { 0 = 0 }; temp = true; path = (record { quant = record { 0 = 1 }; column = 1 } ∷ []); card = 1000; cost = 4000; rescan = 1000 }))
     ∷ ((op.Store []), (by_index_of_cities_under_standard ∷ []), Some (record { tables = 2; cols = (0 ∷ 3 ∷ 0 ∷ 0 ∷ 0 ∷ 0 ∷ 0 ∷ 0 ∷ 0 ∷ 0 ∷ 0 ∷ 0 ∷ []); preds = 0; order = (record { quant = record { 0 = 1 }; column = 1 } ∷ record { quant = record { 0 = 1 }; column = 0 } ∷ []); site = record { 0 = 0 }; temp = true; path = []; card = 1000; cost = 3210; rescan = 1000 }))
     ∷ ((op.Store []), (pushed_of_cities_under_standard ∷ []), None)
     ∷ ((op.Store (record { quant = record { 0 = 1 }; column = 2 } ∷ [])), (emp_of_cities_under_standard ∷ []), None)
-    ∷ ((op.Ship (record { 0 = 0 })), (emp_of_cities_under_standard ∷ []), None)
-    ∷ ((op.Probe (record { quant = record { 0 = 1 }; column = 1 } ∷ []) 1), (stored_of_cities_under_standard ∷ []), Some (record { tables = 2; cols = (0 ∷ 3 ∷ 0 ∷ 0 ∷ 0 ∷ 0 ∷ 0 ∷ 0 ∷ 0 ∷ 0 ∷ 0 ∷ 0 ∷ []); preds = 1; order = (record { quant = record { 0 = 1 }; column = 1 } ∷ []); site = record { 0 = 0 }; temp = false; path = []; card = 100; cost = 3311; rescan = 101 }))
+    ∷ []
+
+abbrev pub get_of_cities_under_standard : List (Op × List Props × Option Props)
+get_of_cities_under_standard =
+    ((op.Get 2 0), (by_index_of_cities_under_standard ∷ []), Some (record { tables = 2; cols = (0 ∷ 3 ∷ 0 ∷ 0 ∷ 0 ∷ 0 ∷ 0 ∷ 0 ∷ 0 ∷ 0 ∷ 0 ∷ 0 ∷ []); preds = 0; order = (record { quant = record { 0 = 1 }; column = 1 } ∷ record { quant = record { 0 = 1 }; column = 0 } ∷ []); site = record { 0 = 0 }; temp = false; path = []; card = 1000; cost = 11210; rescan = 11210 }))
+    ∷ ((op.Get 2 1), (by_index_of_cities_under_standard ∷ []), Some (record { tables = 2; cols = (0 ∷ 3 ∷ 0 ∷ 0 ∷ 0 ∷ 0 ∷ 0 ∷ 0 ∷ 0 ∷ 0 ∷ 0 ∷ 0 ∷ []); preds = 1; order = (record { quant = record { 0 = 1 }; column = 1 } ∷ record { quant = record { 0 = 1 }; column = 0 } ∷ []); site = record { 0 = 0 }; temp = false; path = []; card = 100; cost = 12210; rescan = 12210 }))
+    ∷ ((op.Get 2 0), (pushed_of_cities_under_standard ∷ []), Some (record { tables = 2; cols = (0 ∷ 3 ∷ 0 ∷ 0 ∷ 0 ∷ 0 ∷ 0 ∷ 0 ∷ 0 ∷ 0 ∷ 0 ∷ 0 ∷ []); preds = 1; order = (record { quant = record { 0 = 1 }; column = 1 } ∷ record { quant = record { 0 = 1 }; column = 0 } ∷ []); site = record { 0 = 0 }; temp = false; path = []; card = 100; cost = 1130; rescan = 1130 }))
+    ∷ ((op.Get 1 0), (by_index_of_cities_under_standard ∷ []), None)
+    ∷ ((op.Get 2 0), (dept_of_cities_under_standard ∷ []), None)
+    ∷ []
+
+abbrev pub filter_of_cities_under_standard : List (Op × List Props × Option Props)
+filter_of_cities_under_standard =
+    ((op.Filter 1), (emp_of_cities_under_standard ∷ []), Some (record { tables = 2; cols = (0 ∷ 3 ∷ 0 ∷ 0 ∷ 0 ∷ 0 ∷ 0 ∷ 0 ∷ 0 ∷ 0 ∷ 0 ∷ 0 ∷ []); preds = 1; order = []; site = record { 0 = 0 }; temp = false; path = []; card = 100; cost = 3000; rescan = 3000 }))
+    ∷ ((op.Filter 0), (emp_of_cities_under_standard ∷ []), Some (record { tables = 2; cols = (0 ∷ 3 ∷ 0 ∷ 0 ∷ 0 ∷ 0 ∷ 0 ∷ 0 ∷ 0 ∷ 0 ∷ 0 ∷ 0 ∷ []); preds = 0; order = []; site = record { 0 = 0 }; temp = false; path = []; card = 1000; cost = 2000; rescan = 2000 }))
+    ∷ ((op.Filter 1), (pushed_of_cities_under_standard ∷ []), Some (record { tables = 2; cols = (0 ∷ 3 ∷ 0 ∷ 0 ∷ 0 ∷ 0 ∷ 0 ∷ 0 ∷ 0 ∷ 0 ∷ 0 ∷ 0 ∷ []); preds = 1; order = (record { quant = record { 0 = 1 }; column = 1 } ∷ record { quant = record { 0 = 1 }; column = 0 } ∷ []); site = record { 0 = 0 }; temp = false; path = []; card = 100; cost = 230; rescan = 230 }))
+    ∷ []
+
+abbrev pub ship_of_cities_under_standard : List (Op × List Props × Option Props)
+ship_of_cities_under_standard =
+    ((op.Ship (record { 0 = 0 })), (emp_of_cities_under_standard ∷ []), None)
+    ∷ []
+
+abbrev pub probe_of_cities_under_standard : List (Op × List Props × Option Props)
+probe_of_cities_under_standard =
+    ((op.Probe (record { quant = record { 0 = 1 }; column = 1 } ∷ []) 1), (stored_of_cities_under_standard ∷ []), Some (record { tables = 2; cols = (0 ∷ 3 ∷ 0 ∷ 0 ∷ 0 ∷ 0 ∷ 0 ∷ 0 ∷ 0 ∷ 0 ∷ 0 ∷ 0 ∷ []); preds = 1; order = (record { quant = record { 0 = 1 }; column = 1 } ∷ []); site = record { 0 = 0 }; temp = false; path = []; card = 100; cost = 3311; rescan = 101 }))
     ∷ ((op.Probe (record { quant = record { 0 = 1 }; column = 1 } ∷ record { quant = record { 0 = 1 }; column = 0 } ∷ []) 0), (stored_of_cities_under_standard ∷ []), Some (record { tables = 2; cols = (0 ∷ 3 ∷ 0 ∷ 0 ∷ 0 ∷ 0 ∷ 0 ∷ 0 ∷ 0 ∷ 0 ∷ 0 ∷ 0 ∷ []); preds = 0; order = (record { quant = record { 0 = 1 }; column = 1 } ∷ record { quant = record { 0 = 1 }; column = 0 } ∷ []); site = record { 0 = 0 }; temp = false; path = []; card = 1000; cost = 4211; rescan = 1001 }))
     ∷ ((op.Probe [] 1), (stored_of_cities_under_standard ∷ []), None)
     ∷ ((op.Probe (record { quant = record { 0 = 1 }; column = 0 } ∷ []) 1), (stored_of_cities_under_standard ∷ []), None)
     ∷ ((op.Probe (record { quant = record { 0 = 1 }; column = 1 } ∷ record { quant = record { 0 = 1 }; column = 0 } ∷ record { quant = record { 0 = 1 }; column = 1 } ∷ []) 0), (stored_of_cities_under_standard ∷ []), None)
     ∷ ((op.Probe (record { quant = record { 0 = 1 }; column = 1 } ∷ []) 0), (emp_of_cities_under_standard ∷ []), None)
-    ∷ ((op.JoinNl 0), (dept_of_cities_under_standard ∷ pushed_of_cities_under_standard ∷ []), Some (record { tables = 3; cols = (3 ∷ 3 ∷ 0 ∷ 0 ∷ 0 ∷ 0 ∷ 0 ∷ 0 ∷ 0 ∷ 0 ∷ 0 ∷ 0 ∷ []); preds = 1; order = []; site = record { 0 = 0 }; temp = false; path = []; card = 1000; cost = 1320; rescan = 1320 }))
+    ∷ []
+
+abbrev pub join_nl_of_cities_under_standard : List (Op × List Props × Option Props)
+join_nl_of_cities_under_standard =
+    ((op.JoinNl 0), (dept_of_cities_under_standard ∷ pushed_of_cities_under_standard ∷ []), Some (record { tables = 3; cols = (3 ∷ 3 ∷ 0 ∷ 0 ∷ 0 ∷ 0 ∷ 0 ∷ 0 ∷ 0 ∷ 0 ∷ 0 ∷ 0 ∷ []); preds = 1; order = []; site = record { 0 = 0 }; temp = false; path = []; card = 1000; cost = 1320; rescan = 1320 }))
     ∷ ((op.JoinNl 1), (dept_of_cities_under_standard ∷ emp_of_cities_under_standard ∷ []), Some (record { tables = 3; cols = (3 ∷ 3 ∷ 0 ∷ 0 ∷ 0 ∷ 0 ∷ 0 ∷ 0 ∷ 0 ∷ 0 ∷ 0 ∷ 0 ∷ []); preds = 1; order = []; site = record { 0 = 0 }; temp = false; path = []; card = 1000; cost = 20020; rescan = 20020 }))
     ∷ ((op.JoinNl 0), (dept_of_cities_under_standard ∷ emp_of_cities_under_standard ∷ []), Some (record { tables = 3; cols = (3 ∷ 3 ∷ 0 ∷ 0 ∷ 0 ∷ 0 ∷ 0 ∷ 0 ∷ 0 ∷ 0 ∷ 0 ∷ 0 ∷ []); preds = 0; order = []; site = record { 0 = 0 }; temp = false; path = []; card = 10000; cost = 20020; rescan = 20020 }))
     ∷ ((op.JoinNl 1), (emp_of_cities_under_standard ∷ dept_of_cities_under_standard ∷ []), Some (record { tables = 3; cols = (3 ∷ 3 ∷ 0 ∷ 0 ∷ 0 ∷ 0 ∷ 0 ∷ 0 ∷ 0 ∷ 0 ∷ 0 ∷ 0 ∷ []); preds = 1; order = []; site = record { 0 = 0 }; temp = false; path = []; card = 1000; cost = 22000; rescan = 22000 }))
@@ -133,13 +165,21 @@ steps_of_cities_under_standard =
     ∷ ((op.JoinNl 0), (pushed_of_cities_under_standard ∷ dept_of_cities_under_standard ∷ []), None)
     ∷ ((op.JoinNl 0), (dept_of_cities_under_standard ∷ dept_of_cities_under_standard ∷ []), None)
     ∷ ((op.JoinNl 1), (sorted_of_cities_under_standard ∷ pushed_of_cities_under_standard ∷ []), Some (record { tables = 3; cols = (3 ∷ 3 ∷ 0 ∷ 0 ∷ 0 ∷ 0 ∷ 0 ∷ 0 ∷ 0 ∷ 0 ∷ 0 ∷ 0 ∷ []); preds = 1; order = (record { quant = record { 0 = 0 }; column = 0 } ∷ []); site = record { 0 = 0 }; temp = false; path = []; card = 1000; cost = 1360; rescan = 1360 }))
-    ∷ ((op.JoinHash 1 0), (dept_of_cities_under_standard ∷ emp_of_cities_under_standard ∷ []), Some (record { tables = 3; cols = (3 ∷ 3 ∷ 0 ∷ 0 ∷ 0 ∷ 0 ∷ 0 ∷ 0 ∷ 0 ∷ 0 ∷ 0 ∷ 0 ∷ []); preds = 1; order = []; site = record { 0 = 0 }; temp = false; path = []; card = 1000; cost = 4030; rescan = 4030 }))
+    ∷ []
+
+abbrev pub join_hash_of_cities_under_standard : List (Op × List Props × Option Props)
+join_hash_of_cities_under_standard =
+    ((op.JoinHash 1 0), (dept_of_cities_under_standard ∷ emp_of_cities_under_standard ∷ []), Some (record { tables = 3; cols = (3 ∷ 3 ∷ 0 ∷ 0 ∷ 0 ∷ 0 ∷ 0 ∷ 0 ∷ 0 ∷ 0 ∷ 0 ∷ 0 ∷ []); preds = 1; order = []; site = record { 0 = 0 }; temp = false; path = []; card = 1000; cost = 4030; rescan = 4030 }))
     ∷ ((op.JoinHash 1 1), (sorted_of_cities_under_standard ∷ by_index_of_cities_under_standard ∷ []), Some (record { tables = 3; cols = (3 ∷ 3 ∷ 0 ∷ 0 ∷ 0 ∷ 0 ∷ 0 ∷ 0 ∷ 0 ∷ 0 ∷ 0 ∷ 0 ∷ []); preds = 1; order = []; site = record { 0 = 0 }; temp = false; path = []; card = 1000; cost = 3280; rescan = 3280 }))
     ∷ ((op.JoinHash 0 1), (dept_of_cities_under_standard ∷ emp_of_cities_under_standard ∷ []), None)
     ∷ ((op.JoinHash 1 0), (dept_of_cities_under_standard ∷ pushed_of_cities_under_standard ∷ []), None)
     ∷ ((op.JoinHash 1 0), (pushed_of_cities_under_standard ∷ dept_of_cities_under_standard ∷ []), None)
     ∷ ((op.JoinHash 1 0), (dept_of_cities_under_standard ∷ dept_of_cities_under_standard ∷ []), None)
-    ∷ ((op.JoinMerge 1 0), (sorted_of_cities_under_standard ∷ by_index_of_cities_under_standard ∷ []), Some (record { tables = 3; cols = (3 ∷ 3 ∷ 0 ∷ 0 ∷ 0 ∷ 0 ∷ 0 ∷ 0 ∷ 0 ∷ 0 ∷ 0 ∷ 0 ∷ []); preds = 1; order = (record { quant = record { 0 = 0 }; column = 0 } ∷ []); site = record { 0 = 0 }; temp = false; path = []; card = 1000; cost = 2280; rescan = 2280 }))
+    ∷ []
+
+abbrev pub join_merge_of_cities_under_standard : List (Op × List Props × Option Props)
+join_merge_of_cities_under_standard =
+    ((op.JoinMerge 1 0), (sorted_of_cities_under_standard ∷ by_index_of_cities_under_standard ∷ []), Some (record { tables = 3; cols = (3 ∷ 3 ∷ 0 ∷ 0 ∷ 0 ∷ 0 ∷ 0 ∷ 0 ∷ 0 ∷ 0 ∷ 0 ∷ 0 ∷ []); preds = 1; order = (record { quant = record { 0 = 0 }; column = 0 } ∷ []); site = record { 0 = 0 }; temp = false; path = []; card = 1000; cost = 2280; rescan = 2280 }))
     ∷ ((op.JoinMerge 1 0), (by_index_of_cities_under_standard ∷ sorted_of_cities_under_standard ∷ []), Some (record { tables = 3; cols = (3 ∷ 3 ∷ 0 ∷ 0 ∷ 0 ∷ 0 ∷ 0 ∷ 0 ∷ 0 ∷ 0 ∷ 0 ∷ 0 ∷ []); preds = 1; order = (record { quant = record { 0 = 1 }; column = 1 } ∷ record { quant = record { 0 = 1 }; column = 0 } ∷ []); site = record { 0 = 0 }; temp = false; path = []; card = 1000; cost = 2280; rescan = 2280 }))
     ∷ ((op.JoinMerge 1 0), (dept_of_cities_under_standard ∷ by_index_of_cities_under_standard ∷ []), None)
     ∷ ((op.JoinMerge 1 0), (sorted_of_cities_under_standard ∷ emp_of_cities_under_standard ∷ []), None)
@@ -213,15 +253,35 @@ card_of_cities_under_standard =
     ∷ (3, 1, 1000)
     ∷ []
 
-abbrev pub steps_of_names_of_department_under_standard : List (Op × List Props × Option Props)
-steps_of_names_of_department_under_standard =
+abbrev pub access_index_of_names_of_department_under_standard : List (Op × List Props × Option Props)
+access_index_of_names_of_department_under_standard =
     ((op.AccessIndex 1 0 1), [], Some (by_index_of_names_of_department_under_standard))
-    ∷ ((op.Filter 1), (by_index_of_names_of_department_under_standard ∷ []), Some (record { tables = 1; cols = (2 ∷ 0 ∷ 0 ∷ 0 ∷ 0 ∷ 0 ∷ 0 ∷ 0 ∷ 0 ∷ 0 ∷ 0 ∷ 0 ∷ []); preds = 1; order = (record { quant = record { 0 = 0 }; column = 1 } ∷ record { quant = record { 0 = 0 }; column = 0 } ∷ []); site = record { 0 = 0 }; temp = false; path = []; card = 100; cost = 230; rescan = 230 }))
-    ∷ ((op.Get 1 1), (by_index_of_names_of_department_under_standard ∷ []), Some (record { tables = 1; cols = (6 ∷ 0 ∷ 0 ∷ 0 ∷ 0 ∷ 0 ∷ 0 ∷ 0 ∷ 0 ∷ 0 ∷ 0 ∷ 0 ∷ []); preds = 1; order = (record { quant = record { 0 = 0 }; column = 1 } ∷ record { quant = record { 0 = 0 }; column = 0 } ∷ []); site = record { 0 = 0 }; temp = false; path = []; card = 100; cost = 1230; rescan = 1230 }))
-    ∷ ((op.Sort (record { quant = record { 0 = 0 }; column = 1 } ∷ [])), (by_index_of_names_of_department_under_standard ∷ []), Some (record { tables = 1; cols = (2 ∷ 0 ∷ 0 ∷ 0 ∷ 0 ∷ 0 ∷ 0 ∷ 0 ∷ 0 ∷ 0 ∷ 0 ∷ 0 ∷ []); preds = 1; order = (record { quant = record { 0 = 0 }; column = 1 } ∷ []); site = record { 0 = 0 }; temp = false; path = []; card = 100; cost = 530; rescan = 530 }))
+    ∷ []
+
+abbrev pub filter_of_names_of_department_under_standard : List (Op × List Props × Option Props)
+filter_of_names_of_department_under_standard =
+    ((op.Filter 1), (by_index_of_names_of_department_under_standard ∷ []), Some (record { tables = 1; cols = (2 ∷ 0 ∷ 0 ∷ 0 ∷ 0 ∷ 0 ∷ 0 ∷ 0 ∷ 0 ∷ 0 ∷ 0 ∷ 0 ∷ []); preds = 1; order = (record { quant = record { 0 = 0 }; column = 1 } ∷ record { quant = record { 0 = 0 }; column = 0 } ∷ []); site = record { 0 = 0 }; temp = false; path = []; card = 100; cost = 230; rescan = 230 }))
+    ∷ []
+
+abbrev pub get_of_names_of_department_under_standard : List (Op × List Props × Option Props)
+get_of_names_of_department_under_standard =
+    ((op.Get 1 1), (by_index_of_names_of_department_under_standard ∷ []), Some (record { tables = 1; cols = (6 ∷ 0 ∷ 0 ∷ 0 ∷ 0 ∷ 0 ∷ 0 ∷ 0 ∷ 0 ∷ 0 ∷ 0 ∷ 0 ∷ []); preds = 1; order = (record { quant = record { 0 = 0 }; column = 1 } ∷ record { quant = record { 0 = 0 }; column = 0 } ∷ []); site = record { 0 = 0 }; temp = false; path = []; card = 100; cost = 1230; rescan = 1230 }))
+    ∷ []
+
+abbrev pub sort_of_names_of_department_under_standard : List (Op × List Props × Option Props)
+sort_of_names_of_department_under_standard =
+    ((op.Sort (record { quant = record { 0 = 0 }; column = 1 } ∷ [])), (by_index_of_names_of_department_under_standard ∷ []), Some (record { tables = 1; cols = (2 ∷ 0 ∷ 0 ∷ 0 ∷ 0 ∷ 0 ∷ 0 ∷ 0 ∷ 0 ∷ 0 ∷ 0 ∷ 0 ∷ []); preds = 1; order = (record { quant = record { 0 = 0 }; column = 1 } ∷ []); site = record { 0 = 0 }; temp = false; path = []; card = 100; cost = 530; rescan = 530 }))
     ∷ ((op.Sort (record { quant = record { 0 = 0 }; column = 2 } ∷ [])), (by_index_of_names_of_department_under_standard ∷ []), None)
-    ∷ ((op.JoinNl 0), (by_index_of_names_of_department_under_standard ∷ by_index_of_names_of_department_under_standard ∷ []), None)
-    ∷ ((op.JoinHash 1 0), (by_index_of_names_of_department_under_standard ∷ by_index_of_names_of_department_under_standard ∷ []), None)
+    ∷ []
+
+abbrev pub join_nl_of_names_of_department_under_standard : List (Op × List Props × Option Props)
+join_nl_of_names_of_department_under_standard =
+    ((op.JoinNl 0), (by_index_of_names_of_department_under_standard ∷ by_index_of_names_of_department_under_standard ∷ []), None)
+    ∷ []
+
+abbrev pub join_hash_of_names_of_department_under_standard : List (Op × List Props × Option Props)
+join_hash_of_names_of_department_under_standard =
+    ((op.JoinHash 1 0), (by_index_of_names_of_department_under_standard ∷ by_index_of_names_of_department_under_standard ∷ []), None)
     ∷ []
 
 abbrev pub card_of_names_of_department_under_standard : List (ℕ × ℕ × ℕ)
@@ -229,34 +289,62 @@ card_of_names_of_department_under_standard =
     (1, 1, 100)
     ∷ []
 
-abbrev pub steps_of_french_orders_under_standard : List (Op × List Props × Option Props)
-steps_of_french_orders_under_standard =
+abbrev pub access_heap_of_french_orders_under_standard : List (Op × List Props × Option Props)
+access_heap_of_french_orders_under_standard =
     ((op.AccessHeap 1 0), [], Some (customers_of_french_orders_under_standard))
     ∷ ((op.AccessHeap 2 2), [], Some (nations_of_french_orders_under_standard))
     ∷ ((op.AccessHeap 4 8), [], Some (orders_of_french_orders_under_standard))
-    ∷ ((op.Ship (record { 0 = 0 })), (orders_of_french_orders_under_standard ∷ []), Some (shipped_of_french_orders_under_standard))
-    ∷ ((op.AccessIndex 4 1 0), [], Some (keyed_of_french_orders_under_standard))
-    ∷ ((op.Ship (record { 0 = 0 })), (keyed_of_french_orders_under_standard ∷ []), Some (keyed_shipped_of_french_orders_under_standard))
-    ∷ ((op.AccessIndex 4 1 4), [], Some (pushed_of_french_orders_under_standard))
     ∷ ((op.AccessHeap 8 0), [], Some (lines_of_french_orders_under_standard))
-    ∷ ((op.AccessIndex 16 3 0), [], Some (parts_of_french_orders_under_standard))
     ∷ ((op.AccessHeap 1 1), [], Some (record { tables = 1; cols = (7 ∷ 0 ∷ 0 ∷ 0 ∷ 0 ∷ 0 ∷ 0 ∷ 0 ∷ 0 ∷ 0 ∷ 0 ∷ 0 ∷ []); preds = 1; order = []; site = record { 0 = 0 }; temp = false; path = []; card = 6000; cost = 186000; rescan = 186000 }))
     ∷ ((op.AccessHeap 1 2), [], None)
     ∷ ((op.AccessHeap 4 12), [], Some (record { tables = 4; cols = (0 ∷ 0 ∷ 7 ∷ 0 ∷ 0 ∷ 0 ∷ 0 ∷ 0 ∷ 0 ∷ 0 ∷ 0 ∷ 0 ∷ []); preds = 12; order = []; site = record { 0 = 1 }; temp = false; path = []; card = 4; cost = 3260000; rescan = 3260000 }))
-    ∷ ((op.AccessIndex 4 1 8), [], None)
-    ∷ ((op.AccessIndex 4 0 0), [], None)
-    ∷ ((op.AccessIndex 1 0 5), [], Some (record { tables = 1; cols = (3 ∷ 0 ∷ 0 ∷ 0 ∷ 0 ∷ 0 ∷ 0 ∷ 0 ∷ 0 ∷ 0 ∷ 0 ∷ 0 ∷ []); preds = 5; order = (record { quant = record { 0 = 0 }; column = 1 } ∷ record { quant = record { 0 = 0 }; column = 0 } ∷ []); site = record { 0 = 0 }; temp = false; path = []; card = 1; cost = 12; rescan = 12 }))
-    ∷ ((op.Get 4 8), (keyed_of_french_orders_under_standard ∷ []), Some (record { tables = 4; cols = (0 ∷ 0 ∷ 7 ∷ 0 ∷ 0 ∷ 0 ∷ 0 ∷ 0 ∷ 0 ∷ 0 ∷ 0 ∷ 0 ∷ []); preds = 8; order = (record { quant = record { 0 = 2 }; column = 1 } ∷ []); site = record { 0 = 1 }; temp = false; path = []; card = 500000; cost = 21033010; rescan = 21033010 }))
-    ∷ ((op.Get 4 8), (keyed_shipped_of_french_orders_under_standard ∷ []), None)
-    ∷ ((op.Filter 16), (customers_of_french_orders_under_standard ∷ []), None)
-    ∷ ((op.Filter 8), (keyed_of_french_orders_under_standard ∷ []), None)
-    ∷ ((op.Filter 20), (orders_of_french_orders_under_standard ∷ []), Some (record { tables = 4; cols = (0 ∷ 0 ∷ 7 ∷ 0 ∷ 0 ∷ 0 ∷ 0 ∷ 0 ∷ 0 ∷ 0 ∷ 0 ∷ 0 ∷ []); preds = 28; order = []; site = record { 0 = 1 }; temp = false; path = []; card = 1; cost = 5260000; rescan = 5260000 }))
+    ∷ []
+
+abbrev pub ship_of_french_orders_under_standard : List (Op × List Props × Option Props)
+ship_of_french_orders_under_standard =
+    ((op.Ship (record { 0 = 0 })), (orders_of_french_orders_under_standard ∷ []), Some (shipped_of_french_orders_under_standard))
+    ∷ ((op.Ship (record { 0 = 0 })), (keyed_of_french_orders_under_standard ∷ []), Some (keyed_shipped_of_french_orders_under_standard))
     ∷ ((op.Ship (record { 0 = 1 })), (customers_of_french_orders_under_standard ∷ []), Some (record { tables = 1; cols = (7 ∷ 0 ∷ 0 ∷ 0 ∷ 0 ∷ 0 ∷ 0 ∷ 0 ∷ 0 ∷ 0 ∷ 0 ∷ 0 ∷ []); preds = 0; order = []; site = record { 0 = 1 }; temp = false; path = []; card = 150000; cost = 37086000; rescan = 37086000 }))
     ∷ ((op.Ship (record { 0 = 1 })), (shipped_of_french_orders_under_standard ∷ []), Some (record { tables = 4; cols = (0 ∷ 0 ∷ 7 ∷ 0 ∷ 0 ∷ 0 ∷ 0 ∷ 0 ∷ 0 ∷ 0 ∷ 0 ∷ 0 ∷ []); preds = 8; order = []; site = record { 0 = 1 }; temp = false; path = []; card = 500000; cost = 147260000; rescan = 147260000 }))
     ∷ ((op.Ship (record { 0 = 1 })), (parts_of_french_orders_under_standard ∷ []), Some (record { tables = 16; cols = (0 ∷ 0 ∷ 0 ∷ 0 ∷ 1 ∷ 0 ∷ 0 ∷ 0 ∷ 0 ∷ 0 ∷ 0 ∷ 0 ∷ []); preds = 0; order = (record { quant = record { 0 = 4 }; column = 0 } ∷ []); site = record { 0 = 1 }; temp = false; path = []; card = 200000; cost = 9804410; rescan = 9804410 }))
-    ∷ ((op.Sort (record { quant = record { 0 = 3 }; column = 0 } ∷ [])), (lines_of_french_orders_under_standard ∷ []), Some (record { tables = 8; cols = (0 ∷ 0 ∷ 0 ∷ 7 ∷ 0 ∷ 0 ∷ 0 ∷ 0 ∷ 0 ∷ 0 ∷ 0 ∷ 0 ∷ []); preds = 0; order = (record { quant = record { 0 = 3 }; column = 0 } ∷ []); site = record { 0 = 1 }; temp = false; path = []; card = 6000000; cost = 61100000; rescan = 61100000 }))
-    ∷ ((op.Store (record { quant = record { 0 = 3 }; column = 0 } ∷ [])), (lines_of_french_orders_under_standard ∷ []), Some (record { tables = 8; cols = (0 ∷ 0 ∷ 0 ∷ 7 ∷ 0 ∷ 0 ∷ 0 ∷ 0 ∷ 0 ∷ 0 ∷ 0 ∷ 0 ∷ []); preds = 0; order = []; site = record { 0 = 1 }; temp = true; path = (record { quant = record { 0 = 3 }; column = 0 } ∷ []); card = 6000000; cost = 37100000; rescan = 12000000 }))
-    ∷ ((op.JoinNl 1), (customers_of_french_orders_under_standard ∷ nations_of_french_orders_under_standard ∷ []), Some (record { tables = 3; cols = (7 ∷ 3 ∷ 0 ∷ 0 ∷ 0 ∷ 0 ∷ 0 ∷ 0 ∷ 0 ∷ 0 ∷ 0 ∷ 0 ∷ []); preds = 3; order = []; site = record { 0 = 0 }; temp = false; path = []; card = 6000; cost = 5436000; rescan = 5436000 }))
+    ∷ []
+
+abbrev pub access_index_of_french_orders_under_standard : List (Op × List Props × Option Props)
+access_index_of_french_orders_under_standard =
+    ((op.AccessIndex 4 1 0), [], Some (keyed_of_french_orders_under_standard))
+    ∷ ((op.AccessIndex 4 1 4), [], Some (pushed_of_french_orders_under_standard))
+    ∷ ((op.AccessIndex 16 3 0), [], Some (parts_of_french_orders_under_standard))
+    ∷ ((op.AccessIndex 4 1 8), [], None)
+    ∷ ((op.AccessIndex 4 0 0), [], None)
+    ∷ ((op.AccessIndex 1 0 5), [], Some (record { tables = 1; cols = (3 ∷ 0 ∷ 0 ∷ 0 ∷ 0 ∷ 0 ∷ 0 ∷ 0 ∷ 0 ∷ 0 ∷ 0 ∷ 0 ∷ []); preds = 5; order = (record { quant = record { 0 = 0 }; column = 1 } ∷ record { quant = record { 0 = 0 }; column = 0 } ∷ []); site = record { 0 = 0 }; temp = false; path = []; card = 1; cost = 12; rescan = 12 }))
+    ∷ []
+
+abbrev pub get_of_french_orders_under_standard : List (Op × List Props × Option Props)
+get_of_french_orders_under_standard =
+    ((op.Get 4 8), (keyed_of_french_orders_under_standard ∷ []), Some (record { tables = 4; cols = (0 ∷ 0 ∷ 7 ∷ 0 ∷ 0 ∷ 0 ∷ 0 ∷ 0 ∷ 0 ∷ 0 ∷ 0 ∷ 0 ∷ []); preds = 8; order = (record { quant = record { 0 = 2 }; column = 1 } ∷ []); site = record { 0 = 1 }; temp = false; path = []; card = 500000; cost = 21033010; rescan = 21033010 }))
+    ∷ ((op.Get 4 8), (keyed_shipped_of_french_orders_under_standard ∷ []), None)
+    ∷ []
+
+abbrev pub filter_of_french_orders_under_standard : List (Op × List Props × Option Props)
+filter_of_french_orders_under_standard =
+    ((op.Filter 16), (customers_of_french_orders_under_standard ∷ []), None)
+    ∷ ((op.Filter 8), (keyed_of_french_orders_under_standard ∷ []), None)
+    ∷ ((op.Filter 20), (orders_of_french_orders_under_standard ∷ []), Some (record { tables = 4; cols = (0 ∷ 0 ∷ 7 ∷ 0 ∷ 0 ∷ 0 ∷ 0 ∷ 0 ∷ 0 ∷ 0 ∷ 0 ∷ 0 ∷ []); preds = 28; order = []; site = record { 0 = 1 }; temp = false; path = []; card = 1; cost = 5260000; rescan = 5260000 }))
+    ∷ []
+
+abbrev pub sort_of_french_orders_under_standard : List (Op × List Props × Option Props)
+sort_of_french_orders_under_standard =
+    ((op.Sort (record { quant = record { 0 = 3 }; column = 0 } ∷ [])), (lines_of_french_orders_under_standard ∷ []), Some (record { tables = 8; cols = (0 ∷ 0 ∷ 0 ∷ 7 ∷ 0 ∷ 0 ∷ 0 ∷ 0 ∷ 0 ∷ 0 ∷ 0 ∷ 0 ∷ []); preds = 0; order = (record { quant = record { 0 = 3 }; column = 0 } ∷ []); site = record { 0 = 1 }; temp = false; path = []; card = 6000000; cost = 61100000; rescan = 61100000 }))
+    ∷ []
+
+abbrev pub store_of_french_orders_under_standard : List (Op × List Props × Option Props)
+store_of_french_orders_under_standard =
+    ((op.Store (record { quant = record { 0 = 3 }; column = 0 } ∷ [])), (lines_of_french_orders_under_standard ∷ []), Some (record { tables = 8; cols = (0 ∷ 0 ∷ 0 ∷ 7 ∷ 0 ∷ 0 ∷ 0 ∷ 0 ∷ 0 ∷ 0 ∷ 0 ∷ 0 ∷ []); preds = 0; order = []; site = record { 0 = 1 }; temp = true; path = (record { quant = record { 0 = 3 }; column = 0 } ∷ []); card = 6000000; cost = 37100000; rescan = 12000000 }))
+    ∷ []
+
+abbrev pub join_nl_of_french_orders_under_standard : List (Op × List Props × Option Props)
+join_nl_of_french_orders_under_standard =
+    ((op.JoinNl 1), (customers_of_french_orders_under_standard ∷ nations_of_french_orders_under_standard ∷ []), Some (record { tables = 3; cols = (7 ∷ 3 ∷ 0 ∷ 0 ∷ 0 ∷ 0 ∷ 0 ∷ 0 ∷ 0 ∷ 0 ∷ 0 ∷ 0 ∷ []); preds = 3; order = []; site = record { 0 = 0 }; temp = false; path = []; card = 6000; cost = 5436000; rescan = 5436000 }))
     ∷ ((op.JoinNl 16), (customers_of_french_orders_under_standard ∷ nations_of_french_orders_under_standard ∷ []), None)
     ∷ ((op.JoinNl 4), (customers_of_french_orders_under_standard ∷ orders_of_french_orders_under_standard ∷ []), None)
     ∷ ((op.JoinNl 4), (customers_of_french_orders_under_standard ∷ shipped_of_french_orders_under_standard ∷ []), Some (record { tables = 5; cols = (7 ∷ 0 ∷ 7 ∷ 0 ∷ 0 ∷ 0 ∷ 0 ∷ 0 ∷ 0 ∷ 0 ∷ 0 ∷ 0 ∷ []); preds = 12; order = []; site = record { 0 = 0 }; temp = false; path = []; card = 500000; cost = 11289000186000; rescan = 11289000186000 }))
@@ -264,7 +352,11 @@ steps_of_french_orders_under_standard =
     ∷ ((op.JoinNl 16), (lines_of_french_orders_under_standard ∷ keyed_of_french_orders_under_standard ∷ []), None)
     ∷ ((op.JoinNl 0), (lines_of_french_orders_under_standard ∷ pushed_of_french_orders_under_standard ∷ []), Some (record { tables = 12; cols = (0 ∷ 0 ∷ 2 ∷ 7 ∷ 0 ∷ 0 ∷ 0 ∷ 0 ∷ 0 ∷ 0 ∷ 0 ∷ 0 ∷ []); preds = 4; order = []; site = record { 0 = 1 }; temp = false; path = []; card = 60000000; cost = 199100000; rescan = 199100000 }))
     ∷ ((op.JoinNl 16), (orders_of_french_orders_under_standard ∷ lines_of_french_orders_under_standard ∷ []), Some (record { tables = 12; cols = (0 ∷ 0 ∷ 7 ∷ 7 ∷ 0 ∷ 0 ∷ 0 ∷ 0 ∷ 0 ∷ 0 ∷ 0 ∷ 0 ∷ []); preds = 24; order = []; site = record { 0 = 1 }; temp = false; path = []; card = 2000000; cost = 6550003260000; rescan = 6550003260000 }))
-    ∷ ((op.JoinHash 1 2), (customers_of_french_orders_under_standard ∷ nations_of_french_orders_under_standard ∷ []), Some (record { tables = 3; cols = (7 ∷ 3 ∷ 0 ∷ 0 ∷ 0 ∷ 0 ∷ 0 ∷ 0 ∷ 0 ∷ 0 ∷ 0 ∷ 0 ∷ []); preds = 3; order = []; site = record { 0 = 0 }; temp = false; path = []; card = 6000; cost = 336037; rescan = 336037 }))
+    ∷ []
+
+abbrev pub join_hash_of_french_orders_under_standard : List (Op × List Props × Option Props)
+join_hash_of_french_orders_under_standard =
+    ((op.JoinHash 1 2), (customers_of_french_orders_under_standard ∷ nations_of_french_orders_under_standard ∷ []), Some (record { tables = 3; cols = (7 ∷ 3 ∷ 0 ∷ 0 ∷ 0 ∷ 0 ∷ 0 ∷ 0 ∷ 0 ∷ 0 ∷ 0 ∷ 0 ∷ []); preds = 3; order = []; site = record { 0 = 0 }; temp = false; path = []; card = 6000; cost = 336037; rescan = 336037 }))
     ∷ ((op.JoinHash 2 1), (customers_of_french_orders_under_standard ∷ nations_of_french_orders_under_standard ∷ []), None)
     ∷ ((op.JoinHash 1 16), (customers_of_french_orders_under_standard ∷ nations_of_french_orders_under_standard ∷ []), None)
     ∷ ((op.JoinHash 5 0), (customers_of_french_orders_under_standard ∷ nations_of_french_orders_under_standard ∷ []), None)
@@ -273,7 +365,11 @@ steps_of_french_orders_under_standard =
     ∷ ((op.JoinHash 16 0), (keyed_of_french_orders_under_standard ∷ lines_of_french_orders_under_standard ∷ []), None)
     ∷ ((op.JoinHash 16 0), (lines_of_french_orders_under_standard ∷ keyed_of_french_orders_under_standard ∷ []), None)
     ∷ ((op.JoinHash 8 0), (orders_of_french_orders_under_standard ∷ lines_of_french_orders_under_standard ∷ []), None)
-    ∷ ((op.JoinMerge 4 0), (customers_of_french_orders_under_standard ∷ shipped_of_french_orders_under_standard ∷ []), None)
+    ∷ []
+
+abbrev pub join_merge_of_french_orders_under_standard : List (Op × List Props × Option Props)
+join_merge_of_french_orders_under_standard =
+    ((op.JoinMerge 4 0), (customers_of_french_orders_under_standard ∷ shipped_of_french_orders_under_standard ∷ []), None)
     ∷ []
 
 abbrev pub satisfies_of_french_orders_under_standard : List (Props × Require × Bool)
@@ -298,53 +394,129 @@ card_of_french_orders_under_standard =
     ∷ (31, 63, 80000)
     ∷ []
 
-abbrev pub steps_of_shipped_under_heaps : List (Op × List Props × Option Props)
-steps_of_shipped_under_heaps =
+abbrev pub access_heap_of_shipped_under_heaps : List (Op × List Props × Option Props)
+access_heap_of_shipped_under_heaps =
     ((op.AccessHeap 1 0), [], Some (t_of_shipped_under_heaps))
-    ∷ ((op.Ship (record { 0 = 0 })), (t_of_shipped_under_heaps ∷ []), Some (record { tables = 1; cols = (1 ∷ 0 ∷ 0 ∷ 0 ∷ 0 ∷ 0 ∷ 0 ∷ 0 ∷ 0 ∷ 0 ∷ 0 ∷ 0 ∷ []); preds = 0; order = []; site = record { 0 = 0 }; temp = false; path = []; card = 100; cost = 2110; rescan = 2110 }))
-    ∷ ((op.Ship (record { 0 = 1 })), (t_of_shipped_under_heaps ∷ []), None)
-    ∷ ((op.Sort (record { quant = record { 0 = 0 }; column = 0 } ∷ [])), (t_of_shipped_under_heaps ∷ []), Some (record { tables = 1; cols = (1 ∷ 0 ∷ 0 ∷ 0 ∷ 0 ∷ 0 ∷ 0 ∷ 0 ∷ 0 ∷ 0 ∷ 0 ∷ 0 ∷ []); preds = 0; order = (record { quant = record { 0 = 0 }; column = 0 } ∷ []); site = record { 0 = 1 }; temp = false; path = []; card = 100; cost = 2510; rescan = 2510 }))
-    ∷ ((op.Store []), (t_of_shipped_under_heaps ∷ []), Some (record { tables = 1; cols = (1 ∷ 0 ∷ 0 ∷ 0 ∷ 0 ∷ 0 ∷ 0 ∷ 0 ∷ 0 ∷ 0 ∷ 0 ∷ 0 ∷ []); preds = 0; order = []; site = record { 0 = 1 }; temp = true; path = []; card = 100; cost = 1510; rescan = 500 }))
-    ∷ ((op.Filter 0), (t_of_shipped_under_heaps ∷ []), Some (record { tables = 1; cols = (1 ∷ 0 ∷ 0 ∷ 0 ∷ 0 ∷ 0 ∷ 0 ∷ 0 ∷ 0 ∷ 0 ∷ 0 ∷ 0 ∷ []); preds = 0; order = []; site = record { 0 = 1 }; temp = false; path = []; card = 100; cost = 510; rescan = 510 }))
     ∷ []
 
-abbrev pub steps_of_generated_under_variables : List (Op × List Props × Option Props)
-steps_of_generated_under_variables =
+abbrev pub ship_of_shipped_under_heaps : List (Op × List Props × Option Props)
+ship_of_shipped_under_heaps =
+    ((op.Ship (record { 0 = 0 })), (t_of_shipped_under_heaps ∷ []), Some (record { tables = 1; cols = (1 ∷ 0 ∷ 0 ∷ 0 ∷ 0 ∷ 0 ∷ 0 ∷ 0 ∷ 0 ∷ 0 ∷ 0 ∷ 0 ∷ []); preds = 0; order = []; site = record { 0 = 0 }; temp = false; path = []; card = 100; cost = 2110; rescan = 2110 }))
+    ∷ ((op.Ship (record { 0 = 1 })), (t_of_shipped_under_heaps ∷ []), None)
+    ∷ []
+
+abbrev pub sort_of_shipped_under_heaps : List (Op × List Props × Option Props)
+sort_of_shipped_under_heaps =
+    ((op.Sort (record { quant = record { 0 = 0 }; column = 0 } ∷ [])), (t_of_shipped_under_heaps ∷ []), Some (record { tables = 1; cols = (1 ∷ 0 ∷ 0 ∷ 0 ∷ 0 ∷ 0 ∷ 0 ∷ 0 ∷ 0 ∷ 0 ∷ 0 ∷ 0 ∷ []); preds = 0; order = (record { quant = record { 0 = 0 }; column = 0 } ∷ []); site = record { 0 = 1 }; temp = false; path = []; card = 100; cost = 2510; rescan = 2510 }))
+    ∷ []
+
+abbrev pub store_of_shipped_under_heaps : List (Op × List Props × Option Props)
+store_of_shipped_under_heaps =
+    ((op.Store []), (t_of_shipped_under_heaps ∷ []), Some (record { tables = 1; cols = (1 ∷ 0 ∷ 0 ∷ 0 ∷ 0 ∷ 0 ∷ 0 ∷ 0 ∷ 0 ∷ 0 ∷ 0 ∷ 0 ∷ []); preds = 0; order = []; site = record { 0 = 1 }; temp = true; path = []; card = 100; cost = 1510; rescan = 500 }))
+    ∷ []
+
+abbrev pub filter_of_shipped_under_heaps : List (Op × List Props × Option Props)
+filter_of_shipped_under_heaps =
+    ((op.Filter 0), (t_of_shipped_under_heaps ∷ []), Some (record { tables = 1; cols = (1 ∷ 0 ∷ 0 ∷ 0 ∷ 0 ∷ 0 ∷ 0 ∷ 0 ∷ 0 ∷ 0 ∷ 0 ∷ 0 ∷ []); preds = 0; order = []; site = record { 0 = 1 }; temp = false; path = []; card = 100; cost = 510; rescan = 510 }))
+    ∷ []
+
+abbrev pub access_heap_of_generated_under_variables : List (Op × List Props × Option Props)
+access_heap_of_generated_under_variables =
     ((op.AccessHeap 1 0), [], Some (a_of_generated_under_variables))
-    ∷ ((op.AccessIndex 2 1 1), [], Some (b_of_generated_under_variables))
+    ∷ ((op.AccessHeap 2 1), [], Some (record { tables = 2; cols = (0 ∷ 3 ∷ 0 ∷ 0 ∷ 0 ∷ 0 ∷ 0 ∷ 0 ∷ 0 ∷ 0 ∷ 0 ∷ 0 ∷ []); preds = 1; order = []; site = record { 0 = 0 }; temp = false; path = []; card = 2; cost = 2004015001000001; rescan = 1000000000000016 }))
+    ∷ []
+
+abbrev pub access_index_of_generated_under_variables : List (Op × List Props × Option Props)
+access_index_of_generated_under_variables =
+    ((op.AccessIndex 2 1 1), [], Some (b_of_generated_under_variables))
     ∷ ((op.AccessIndex 2 1 0), [], Some (c_of_generated_under_variables))
     ∷ ((op.AccessIndex 1 0 0), [], Some (d_of_generated_under_variables))
-    ∷ ((op.Store (record { quant = record { 0 = 1 }; column = 1 } ∷ [])), (c_of_generated_under_variables ∷ []), Some (stored_of_generated_under_variables))
-    ∷ ((op.Sort (record { quant = record { 0 = 0 }; column = 0 } ∷ [])), (a_of_generated_under_variables ∷ []), Some (sorted_of_generated_under_variables))
-    ∷ ((op.AccessHeap 2 1), [], Some (record { tables = 2; cols = (0 ∷ 3 ∷ 0 ∷ 0 ∷ 0 ∷ 0 ∷ 0 ∷ 0 ∷ 0 ∷ 0 ∷ 0 ∷ 0 ∷ []); preds = 1; order = []; site = record { 0 = 0 }; temp = false; path = []; card = 2; cost = 2004015001000001; rescan = 1000000000000016 }))
-    ∷ ((op.Get 1 0), (d_of_generated_under_variables ∷ []), Some (record { tables = 1; cols = (1 ∷ 0 ∷ 0 ∷ 0 ∷ 0 ∷ 0 ∷ 0 ∷ 0 ∷ 0 ∷ 0 ∷ 0 ∷ 0 ∷ []); preds = 0; order = (record { quant = record { 0 = 0 }; column = 1 } ∷ record { quant = record { 0 = 0 }; column = 0 } ∷ []); site = record { 0 = 0 }; temp = false; path = []; card = 13; cost = 13003013000000001; rescan = 1000013000008008 }))
-    ∷ ((op.Get 2 1), (c_of_generated_under_variables ∷ []), Some (record { tables = 2; cols = (0 ∷ 3 ∷ 0 ∷ 0 ∷ 0 ∷ 0 ∷ 0 ∷ 0 ∷ 0 ∷ 0 ∷ 0 ∷ 0 ∷ []); preds = 1; order = (record { quant = record { 0 = 1 }; column = 1 } ∷ record { quant = record { 0 = 1 }; column = 0 } ∷ []); site = record { 0 = 0 }; temp = false; path = []; card = 2; cost = 2004015001000001; rescan = 1000015000016016 }))
-    ∷ ((op.Filter 1), (c_of_generated_under_variables ∷ []), Some (record { tables = 2; cols = (0 ∷ 3 ∷ 0 ∷ 0 ∷ 0 ∷ 0 ∷ 0 ∷ 0 ∷ 0 ∷ 0 ∷ 0 ∷ 0 ∷ []); preds = 1; order = (record { quant = record { 0 = 1 }; column = 1 } ∷ record { quant = record { 0 = 1 }; column = 0 } ∷ []); site = record { 0 = 0 }; temp = false; path = []; card = 2; cost = 2000000001000001; rescan = 1000015000016016 }))
-    ∷ ((op.Sort (record { quant = record { 0 = 1 }; column = 0 } ∷ [])), (c_of_generated_under_variables ∷ []), Some (record { tables = 2; cols = (0 ∷ 3 ∷ 0 ∷ 0 ∷ 0 ∷ 0 ∷ 0 ∷ 0 ∷ 0 ∷ 0 ∷ 0 ∷ 0 ∷ []); preds = 0; order = (record { quant = record { 0 = 1 }; column = 0 } ∷ []); site = record { 0 = 0 }; temp = false; path = []; card = 15; cost = 15000000000000001; rescan = 1000015000016016 }))
+    ∷ []
+
+abbrev pub store_of_generated_under_variables : List (Op × List Props × Option Props)
+store_of_generated_under_variables =
+    ((op.Store (record { quant = record { 0 = 1 }; column = 1 } ∷ [])), (c_of_generated_under_variables ∷ []), Some (stored_of_generated_under_variables))
     ∷ ((op.Store []), (a_of_generated_under_variables ∷ []), Some (record { tables = 1; cols = (1 ∷ 0 ∷ 0 ∷ 0 ∷ 0 ∷ 0 ∷ 0 ∷ 0 ∷ 0 ∷ 0 ∷ 0 ∷ 0 ∷ []); preds = 0; order = []; site = record { 0 = 0 }; temp = true; path = []; card = 13; cost = 13000000000000001; rescan = 1000013000008008 }))
-    ∷ ((op.Probe (record { quant = record { 0 = 1 }; column = 1 } ∷ []) 1), (stored_of_generated_under_variables ∷ []), Some (record { tables = 2; cols = (0 ∷ 3 ∷ 0 ∷ 0 ∷ 0 ∷ 0 ∷ 0 ∷ 0 ∷ 0 ∷ 0 ∷ 0 ∷ 0 ∷ []); preds = 1; order = (record { quant = record { 0 = 1 }; column = 1 } ∷ []); site = record { 0 = 0 }; temp = false; path = []; card = 2; cost = 2000000001000001; rescan = 1000015000016016 }))
-    ∷ ((op.JoinNl 0), (a_of_generated_under_variables ∷ b_of_generated_under_variables ∷ []), Some (record { tables = 3; cols = (1 ∷ 3 ∷ 0 ∷ 0 ∷ 0 ∷ 0 ∷ 0 ∷ 0 ∷ 0 ∷ 0 ∷ 0 ∷ 0 ∷ []); preds = 1; order = []; site = record { 0 = 0 }; temp = false; path = []; card = 15; cost = 15000000000000001; rescan = 1002013016008024 }))
+    ∷ []
+
+abbrev pub sort_of_generated_under_variables : List (Op × List Props × Option Props)
+sort_of_generated_under_variables =
+    ((op.Sort (record { quant = record { 0 = 0 }; column = 0 } ∷ [])), (a_of_generated_under_variables ∷ []), Some (sorted_of_generated_under_variables))
+    ∷ ((op.Sort (record { quant = record { 0 = 1 }; column = 0 } ∷ [])), (c_of_generated_under_variables ∷ []), Some (record { tables = 2; cols = (0 ∷ 3 ∷ 0 ∷ 0 ∷ 0 ∷ 0 ∷ 0 ∷ 0 ∷ 0 ∷ 0 ∷ 0 ∷ 0 ∷ []); preds = 0; order = (record { quant = record { 0 = 1 }; column = 0 } ∷ []); site = record { 0 = 0 }; temp = false; path = []; card = 15; cost = 15000000000000001; rescan = 1000015000016016 }))
+    ∷ []
+
+abbrev pub get_of_generated_under_variables : List (Op × List Props × Option Props)
+get_of_generated_under_variables =
+    ((op.Get 1 0), (d_of_generated_under_variables ∷ []), Some (record { tables = 1; cols = (1 ∷ 0 ∷ 0 ∷ 0 ∷ 0 ∷ 0 ∷ 0 ∷ 0 ∷ 0 ∷ 0 ∷ 0 ∷ 0 ∷ []); preds = 0; order = (record { quant = record { 0 = 0 }; column = 1 } ∷ record { quant = record { 0 = 0 }; column = 0 } ∷ []); site = record { 0 = 0 }; temp = false; path = []; card = 13; cost = 13003013000000001; rescan = 1000013000008008 }))
+    ∷ ((op.Get 2 1), (c_of_generated_under_variables ∷ []), Some (record { tables = 2; cols = (0 ∷ 3 ∷ 0 ∷ 0 ∷ 0 ∷ 0 ∷ 0 ∷ 0 ∷ 0 ∷ 0 ∷ 0 ∷ 0 ∷ []); preds = 1; order = (record { quant = record { 0 = 1 }; column = 1 } ∷ record { quant = record { 0 = 1 }; column = 0 } ∷ []); site = record { 0 = 0 }; temp = false; path = []; card = 2; cost = 2004015001000001; rescan = 1000015000016016 }))
+    ∷ []
+
+abbrev pub filter_of_generated_under_variables : List (Op × List Props × Option Props)
+filter_of_generated_under_variables =
+    ((op.Filter 1), (c_of_generated_under_variables ∷ []), Some (record { tables = 2; cols = (0 ∷ 3 ∷ 0 ∷ 0 ∷ 0 ∷ 0 ∷ 0 ∷ 0 ∷ 0 ∷ 0 ∷ 0 ∷ 0 ∷ []); preds = 1; order = (record { quant = record { 0 = 1 }; column = 1 } ∷ record { quant = record { 0 = 1 }; column = 0 } ∷ []); site = record { 0 = 0 }; temp = false; path = []; card = 2; cost = 2000000001000001; rescan = 1000015000016016 }))
+    ∷ []
+
+abbrev pub probe_of_generated_under_variables : List (Op × List Props × Option Props)
+probe_of_generated_under_variables =
+    ((op.Probe (record { quant = record { 0 = 1 }; column = 1 } ∷ []) 1), (stored_of_generated_under_variables ∷ []), Some (record { tables = 2; cols = (0 ∷ 3 ∷ 0 ∷ 0 ∷ 0 ∷ 0 ∷ 0 ∷ 0 ∷ 0 ∷ 0 ∷ 0 ∷ 0 ∷ []); preds = 1; order = (record { quant = record { 0 = 1 }; column = 1 } ∷ []); site = record { 0 = 0 }; temp = false; path = []; card = 2; cost = 2000000001000001; rescan = 1000015000016016 }))
+    ∷ []
+
+abbrev pub join_nl_of_generated_under_variables : List (Op × List Props × Option Props)
+join_nl_of_generated_under_variables =
+    ((op.JoinNl 0), (a_of_generated_under_variables ∷ b_of_generated_under_variables ∷ []), Some (record { tables = 3; cols = (1 ∷ 3 ∷ 0 ∷ 0 ∷ 0 ∷ 0 ∷ 0 ∷ 0 ∷ 0 ∷ 0 ∷ 0 ∷ 0 ∷ []); preds = 1; order = []; site = record { 0 = 0 }; temp = false; path = []; card = 15; cost = 15000000000000001; rescan = 1002013016008024 }))
     ∷ ((op.JoinNl 1), (a_of_generated_under_variables ∷ c_of_generated_under_variables ∷ []), Some (record { tables = 3; cols = (1 ∷ 3 ∷ 0 ∷ 0 ∷ 0 ∷ 0 ∷ 0 ∷ 0 ∷ 0 ∷ 0 ∷ 0 ∷ 0 ∷ []); preds = 1; order = []; site = record { 0 = 0 }; temp = false; path = []; card = 15; cost = 15000000001000001; rescan = 1015013016008024 }))
     ∷ ((op.JoinNl 1), (c_of_generated_under_variables ∷ a_of_generated_under_variables ∷ []), Some (record { tables = 3; cols = (1 ∷ 3 ∷ 0 ∷ 0 ∷ 0 ∷ 0 ∷ 0 ∷ 0 ∷ 0 ∷ 0 ∷ 0 ∷ 0 ∷ []); preds = 1; order = (record { quant = record { 0 = 1 }; column = 1 } ∷ record { quant = record { 0 = 1 }; column = 0 } ∷ []); site = record { 0 = 0 }; temp = false; path = []; card = 15; cost = 15000000001000001; rescan = 1013015008016024 }))
-    ∷ ((op.JoinMerge 1 0), (sorted_of_generated_under_variables ∷ c_of_generated_under_variables ∷ []), Some (record { tables = 3; cols = (1 ∷ 3 ∷ 0 ∷ 0 ∷ 0 ∷ 0 ∷ 0 ∷ 0 ∷ 0 ∷ 0 ∷ 0 ∷ 0 ∷ []); preds = 1; order = (record { quant = record { 0 = 0 }; column = 0 } ∷ []); site = record { 0 = 0 }; temp = false; path = []; card = 15; cost = 15000000001000001; rescan = 1015013016008024 }))
-    ∷ ((op.JoinHash 1 0), (a_of_generated_under_variables ∷ c_of_generated_under_variables ∷ []), Some (record { tables = 3; cols = (1 ∷ 3 ∷ 0 ∷ 0 ∷ 0 ∷ 0 ∷ 0 ∷ 0 ∷ 0 ∷ 0 ∷ 0 ∷ 0 ∷ []); preds = 1; order = []; site = record { 0 = 0 }; temp = false; path = []; card = 15; cost = 15000000001000001; rescan = 1015013016008024 }))
+    ∷ []
+
+abbrev pub join_merge_of_generated_under_variables : List (Op × List Props × Option Props)
+join_merge_of_generated_under_variables =
+    ((op.JoinMerge 1 0), (sorted_of_generated_under_variables ∷ c_of_generated_under_variables ∷ []), Some (record { tables = 3; cols = (1 ∷ 3 ∷ 0 ∷ 0 ∷ 0 ∷ 0 ∷ 0 ∷ 0 ∷ 0 ∷ 0 ∷ 0 ∷ 0 ∷ []); preds = 1; order = (record { quant = record { 0 = 0 }; column = 0 } ∷ []); site = record { 0 = 0 }; temp = false; path = []; card = 15; cost = 15000000001000001; rescan = 1015013016008024 }))
+    ∷ []
+
+abbrev pub join_hash_of_generated_under_variables : List (Op × List Props × Option Props)
+join_hash_of_generated_under_variables =
+    ((op.JoinHash 1 0), (a_of_generated_under_variables ∷ c_of_generated_under_variables ∷ []), Some (record { tables = 3; cols = (1 ∷ 3 ∷ 0 ∷ 0 ∷ 0 ∷ 0 ∷ 0 ∷ 0 ∷ 0 ∷ 0 ∷ 0 ∷ 0 ∷ []); preds = 1; order = []; site = record { 0 = 0 }; temp = false; path = []; card = 15; cost = 15000000001000001; rescan = 1015013016008024 }))
     ∷ ((op.JoinHash 1 0), (c_of_generated_under_variables ∷ d_of_generated_under_variables ∷ []), Some (record { tables = 3; cols = (1 ∷ 3 ∷ 0 ∷ 0 ∷ 0 ∷ 0 ∷ 0 ∷ 0 ∷ 0 ∷ 0 ∷ 0 ∷ 0 ∷ []); preds = 1; order = []; site = record { 0 = 0 }; temp = false; path = []; card = 15; cost = 15000000001000001; rescan = 1013015008016024 }))
     ∷ []
 
-abbrev pub steps_of_shipped_under_variables : List (Op × List Props × Option Props)
-steps_of_shipped_under_variables =
+abbrev pub access_heap_of_shipped_under_variables : List (Op × List Props × Option Props)
+access_heap_of_shipped_under_variables =
     ((op.AccessHeap 1 0), [], Some (t_of_shipped_under_variables))
-    ∷ ((op.Ship (record { 0 = 0 })), (t_of_shipped_under_variables ∷ []), Some (near_of_shipped_under_variables))
-    ∷ ((op.Sort (record { quant = record { 0 = 0 }; column = 0 } ∷ [])), (t_of_shipped_under_variables ∷ []), Some (record { tables = 1; cols = (1 ∷ 0 ∷ 0 ∷ 0 ∷ 0 ∷ 0 ∷ 0 ∷ 0 ∷ 0 ∷ 0 ∷ 0 ∷ 0 ∷ []); preds = 0; order = (record { quant = record { 0 = 0 }; column = 0 } ∷ []); site = record { 0 = 1 }; temp = false; path = []; card = 100; cost = 100000000000000005; rescan = 1000100000008008 }))
-    ∷ ((op.Sort (record { quant = record { 0 = 0 }; column = 0 } ∷ [])), (near_of_shipped_under_variables ∷ []), Some (record { tables = 1; cols = (1 ∷ 0 ∷ 0 ∷ 0 ∷ 0 ∷ 0 ∷ 0 ∷ 0 ∷ 0 ∷ 0 ∷ 0 ∷ 0 ∷ []); preds = 0; order = (record { quant = record { 0 = 0 }; column = 0 } ∷ []); site = record { 0 = 0 }; temp = false; path = []; card = 100; cost = 100000000000000001; rescan = 1000100000008008 }))
-    ∷ ((op.Ship (record { 0 = 1 })), (near_of_shipped_under_variables ∷ []), Some (record { tables = 1; cols = (1 ∷ 0 ∷ 0 ∷ 0 ∷ 0 ∷ 0 ∷ 0 ∷ 0 ∷ 0 ∷ 0 ∷ 0 ∷ 0 ∷ []); preds = 0; order = []; site = record { 0 = 1 }; temp = false; path = []; card = 100; cost = 100000000000002001; rescan = 1000100000008008 }))
-    ∷ ((op.Store []), (near_of_shipped_under_variables ∷ []), Some (record { tables = 1; cols = (1 ∷ 0 ∷ 0 ∷ 0 ∷ 0 ∷ 0 ∷ 0 ∷ 0 ∷ 0 ∷ 0 ∷ 0 ∷ 0 ∷ []); preds = 0; order = []; site = record { 0 = 0 }; temp = true; path = []; card = 100; cost = 100000000000000001; rescan = 1000100000008008 }))
-    ∷ ((op.Filter 0), (near_of_shipped_under_variables ∷ []), Some (record { tables = 1; cols = (1 ∷ 0 ∷ 0 ∷ 0 ∷ 0 ∷ 0 ∷ 0 ∷ 0 ∷ 0 ∷ 0 ∷ 0 ∷ 0 ∷ []); preds = 0; order = []; site = record { 0 = 0 }; temp = false; path = []; card = 100; cost = 100000000000000001; rescan = 1000100000008008 }))
     ∷ []
 
-abbrev pub steps_of_two_tables_under_variables : List (Op × List Props × Option Props)
-steps_of_two_tables_under_variables =
+abbrev pub ship_of_shipped_under_variables : List (Op × List Props × Option Props)
+ship_of_shipped_under_variables =
+    ((op.Ship (record { 0 = 0 })), (t_of_shipped_under_variables ∷ []), Some (near_of_shipped_under_variables))
+    ∷ ((op.Ship (record { 0 = 1 })), (near_of_shipped_under_variables ∷ []), Some (record { tables = 1; cols = (1 ∷ 0 ∷ 0 ∷ 0 ∷ 0 ∷ 0 ∷ 0 ∷ 0 ∷ 0 ∷ 0 ∷ 0 ∷ 0 ∷ []); preds = 0; order = []; site = record { 0 = 1 }; temp = false; path = []; card = 100; cost = 100000000000002001; rescan = 1000100000008008 }))
+    ∷ []
+
+abbrev pub sort_of_shipped_under_variables : List (Op × List Props × Option Props)
+sort_of_shipped_under_variables =
+    ((op.Sort (record { quant = record { 0 = 0 }; column = 0 } ∷ [])), (t_of_shipped_under_variables ∷ []), Some (record { tables = 1; cols = (1 ∷ 0 ∷ 0 ∷ 0 ∷ 0 ∷ 0 ∷ 0 ∷ 0 ∷ 0 ∷ 0 ∷ 0 ∷ 0 ∷ []); preds = 0; order = (record { quant = record { 0 = 0 }; column = 0 } ∷ []); site = record { 0 = 1 }; temp = false; path = []; card = 100; cost = 100000000000000005; rescan = 1000100000008008 }))
+    ∷ ((op.Sort (record { quant = record { 0 = 0 }; column = 0 } ∷ [])), (near_of_shipped_under_variables ∷ []), Some (record { tables = 1; cols = (1 ∷ 0 ∷ 0 ∷ 0 ∷ 0 ∷ 0 ∷ 0 ∷ 0 ∷ 0 ∷ 0 ∷ 0 ∷ 0 ∷ []); preds = 0; order = (record { quant = record { 0 = 0 }; column = 0 } ∷ []); site = record { 0 = 0 }; temp = false; path = []; card = 100; cost = 100000000000000001; rescan = 1000100000008008 }))
+    ∷ []
+
+abbrev pub store_of_shipped_under_variables : List (Op × List Props × Option Props)
+store_of_shipped_under_variables =
+    ((op.Store []), (near_of_shipped_under_variables ∷ []), Some (record { tables = 1; cols = (1 ∷ 0 ∷ 0 ∷ 0 ∷ 0 ∷ 0 ∷ 0 ∷ 0 ∷ 0 ∷ 0 ∷ 0 ∷ 0 ∷ []); preds = 0; order = []; site = record { 0 = 0 }; temp = true; path = []; card = 100; cost = 100000000000000001; rescan = 1000100000008008 }))
+    ∷ []
+
+abbrev pub filter_of_shipped_under_variables : List (Op × List Props × Option Props)
+filter_of_shipped_under_variables =
+    ((op.Filter 0), (near_of_shipped_under_variables ∷ []), Some (record { tables = 1; cols = (1 ∷ 0 ∷ 0 ∷ 0 ∷ 0 ∷ 0 ∷ 0 ∷ 0 ∷ 0 ∷ 0 ∷ 0 ∷ 0 ∷ []); preds = 0; order = []; site = record { 0 = 0 }; temp = false; path = []; card = 100; cost = 100000000000000001; rescan = 1000100000008008 }))
+    ∷ []
+
+abbrev pub access_heap_of_two_tables_under_variables : List (Op × List Props × Option Props)
+access_heap_of_two_tables_under_variables =
     ((op.AccessHeap 1 0), [], Some (n_of_two_tables_under_variables))
-    ∷ ((op.Ship (record { 0 = 1 })), (n_of_two_tables_under_variables ∷ []), Some (record { tables = 1; cols = (3 ∷ 0 ∷ 0 ∷ 0 ∷ 0 ∷ 0 ∷ 0 ∷ 0 ∷ 0 ∷ 0 ∷ 0 ∷ 0 ∷ []); preds = 0; order = []; site = record { 0 = 1 }; temp = false; path = []; card = 25; cost = 25000000000006001; rescan = 1000025000033033 }))
-    ∷ ((op.JoinNl 0), (n_of_two_tables_under_variables ∷ n_of_two_tables_under_variables ∷ []), None)
+    ∷ []
+
+abbrev pub ship_of_two_tables_under_variables : List (Op × List Props × Option Props)
+ship_of_two_tables_under_variables =
+    ((op.Ship (record { 0 = 1 })), (n_of_two_tables_under_variables ∷ []), Some (record { tables = 1; cols = (3 ∷ 0 ∷ 0 ∷ 0 ∷ 0 ∷ 0 ∷ 0 ∷ 0 ∷ 0 ∷ 0 ∷ 0 ∷ 0 ∷ []); preds = 0; order = []; site = record { 0 = 1 }; temp = false; path = []; card = 25; cost = 25000000000006001; rescan = 1000025000033033 }))
+    ∷ []
+
+abbrev pub join_nl_of_two_tables_under_variables : List (Op × List Props × Option Props)
+join_nl_of_two_tables_under_variables =
+    ((op.JoinNl 0), (n_of_two_tables_under_variables ∷ n_of_two_tables_under_variables ∷ []), None)
     ∷ []
