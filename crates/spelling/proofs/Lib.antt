@@ -13,4 +13,7 @@ mod ConditionLaws
 mod FormulaLaws
 mod RuleLaws
 mod Thin
+mod Written
+mod LayoutLaws
+mod Formed
 pub mod Laws
