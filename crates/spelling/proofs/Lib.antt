@@ -5,6 +5,7 @@ mod FormulaSound
 mod FormulaCanon
 mod Statements
 mod CatalogueLaws
+mod CatalogueWriting
 mod QueryLaws
 mod DerivationLaws
 mod Readers
