@@ -1,5 +1,5 @@
 -- How a well-formed catalogue is written means that catalogue.
-use Rattle.std.proofs.Common.{◌≡◌, ℕ, zero, suc, ◌+◌, ◌<◌, Bool, true, false, not, ◌&&◌, cond, nat_lt, List, [], ◌∷◌, ◌++◌, map, length, Option, Some, None, option_map, option_and_then, slice_get, unwrap_or, refl, sym, ap, ◌∙◌, subst, arith, append_assoc, append-nil, ltb-true}
+use Rattle.std.proofs.Common.{◌≡◌, ℕ, zero, suc, ◌+◌, ◌<◌, Bool, true, false, not, nat_lt, List, [], ◌∷◌, ◌++◌, map, length, Some, slice_get, refl, sym, ap, ◌∙◌, subst, arith, append_assoc, append-nil, ltb-true}
 use Rattle.std.proofs.lemmas.Bool.{and_parts}
 use Rattle.std.proofs.lemmas.List.{length-map}
 use Rattle.std.specs.List.{position_from, list_all}
@@ -15,7 +15,7 @@ use Rattle.star_model.specs.declared.catalogue.ColumnDef.{ColumnDef}
 use Rattle.star_model.specs.declared.catalogue.IndexDef.{IndexDef}
 use Rattle.spelling.specs.Lexemes.{IsStatements, Every, HasItem}
 use Rattle.spelling.specs.Names.{place_of, all_of}
-use Rattle.spelling.specs.Catalogues.{CatalogueStatement, Site, with_statement, with_statements, nothing_defined, catalogue_of, name_at, site_names, table_names, column_names, column_names_at, table_statement, index_statement, catalogue_statements, catalogue_lexemes, HasColumns, SpellsCatalogue}
+use Rattle.spelling.specs.Catalogues.{CatalogueStatement, Site, with_statements, nothing_defined, catalogue_of, name_at, site_names, table_names, column_names, column_names_at, table_statement, index_statement, catalogue_statements, catalogue_lexemes, HasColumns, SpellsCatalogue}
 use Rattle.spelling.proofs.Statements.{same_self}
 
 -- ---- a name that no other is stands at its own place
@@ -136,6 +136,6 @@ written_catalogue_spells c h text are = record {
   statements = catalogue_statements c;
   are = are;
   columns = both HasColumns (map Site c.sites) (map (table_statement c) c.tables ++ map (index_statement c) c.indexes) (of_sites c.sites)
-    (both HasColumns (map (table_statement c) c.tables) (map (index_statement c) c.indexes) (of_tables c (length c.sites) c.tables h.tables) (of_indexes c c.indexes h.indexes));
+      (both HasColumns (map (table_statement c) c.tables) (map (index_statement c) c.indexes) (of_tables c (length c.sites) c.tables h.tables) (of_indexes c c.indexes h.indexes));
   means = written_catalogue c h;
 }

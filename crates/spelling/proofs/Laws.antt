@@ -7,3 +7,4 @@ pub use Rattle.spelling.proofs.QueryLaws.{one_query_statement, one_query}
 pub use Rattle.spelling.proofs.FormulaLaws.{one_formula, canonical_formula}
 pub use Rattle.spelling.proofs.Thin.{canonical_formula_def, tiny_is_spelled, one_table, one_column}
 pub use Rattle.spelling.proofs.RuleLaws.{one_star, one_formula_def, one_rule_file}
+pub use Rattle.spelling.proofs.RuleWriting.{written_rules_spell}

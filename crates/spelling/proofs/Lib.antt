@@ -14,4 +14,5 @@ mod ConditionLaws
 mod FormulaLaws
 mod RuleLaws
 mod Thin
+mod RuleWriting
 pub mod Laws

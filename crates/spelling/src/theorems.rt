@@ -9,7 +9,7 @@ ghost use Rattle.spelling.specs.Derivations.{SpellsDerivation};
 ghost use Rattle.spelling.specs.Catalogues.{CatalogueStatement, catalogue_of, catalogue_statements, Site, Table, TablePart, table_from, catalogue_lexemes, SpellsCatalogueStatement, SpellsCatalogue};
 ghost use Rattle.spelling.specs.Queries.{QueryStatement, only_column, query_lexemes, IsFree, SpellsQueryStatement, SpellsQuery};
 ghost use Rattle.spelling.specs.Formulas.{SpellsFormula, formula_lexemes};
-ghost use Rattle.spelling.specs.Rules.{SpellsStar, SpellsFormulaDef, formula_def_lexemes, SpellsRules};
+ghost use Rattle.spelling.specs.Rules.{SpellsStar, SpellsFormulaDef, formula_def_lexemes, rule_lexemes, SpellsRules};
 ghost use Rattle.spelling.specs.Tiny.{tiny_lexemes, tiny_rules};
 ghost use Rattle.star_model.specs.WellFormed.{WellFormedCatalogue};
 ghost use Rattle.star_model.specs.declared.catalogue.Catalogue.{Catalogue};
@@ -72,6 +72,11 @@ pub fn one_rule_file()
     ensures text { (text : List ℕ) (a b : RuleFile) → SpellsRules text a → SpellsRules text b → a ≡ b }
     ensures star { (n : ℕ) (lexemes : List Lexeme) (s t : StarDef) → SpellsStar n lexemes s → SpellsStar n lexemes t → s ≡ t }
     ensures formula { (n : ℕ) (lexemes : List Lexeme) (d f : FormulaDef) → SpellsFormulaDef n lexemes d → SpellsFormulaDef n lexemes f → d ≡ f }
+{}
+
+/// Where some text spells a rule file, so does each text with its own statements in the order of their numbers.
+pub fn rule_files_are_written()
+    ensures { (text : List ℕ) (rules : RuleFile) → SpellsRules text rules → (other : List ℕ) → IsStatements other (rule_lexemes rules) → SpellsRules other rules }
 {}
 
 /// What the smallest texts spell: the smallest rule file that is accepted, one site with one table at it, and a query for the
