@@ -3,10 +3,14 @@ mod FormulaDepth
 mod FormulaComplete
 mod FormulaSound
 mod FormulaCanon
+mod Numerals
 mod Statements
 mod CatalogueLaws
+mod CatalogueWriting
 mod QueryLaws
 mod DerivationLaws
+mod TokenForms
+mod Undoubling
 mod Readers
 mod ValueReading
 mod ConditionLaws
@@ -16,4 +20,5 @@ mod Thin
 mod Written
 mod LayoutLaws
 mod Formed
+mod RuleWriting
 pub mod Laws

@@ -9,6 +9,8 @@ pub mod FormulaGrammar
 pub mod FormulaCanonical
 pub mod FormulaReading
 pub mod Formulas
+pub mod Reading
+pub mod Cursors
 pub mod Values
 pub mod Rules
 pub mod Tiny

@@ -2,5 +2,8 @@
 //! derivations, catalogues, queries and rule files, and the laws that one text spells at most one tree.
 #![tactic(auto)]
 
+mod cursor;
 pub mod theorems;
 pub mod words;
+
+pub use cursor::{Cursor, same_lexeme};

@@ -1,17 +1,18 @@
 // The laws of the definitions, each the clause of a function that does nothing.
 
-ghost use Rattle.std.specs.Prelude.{◌≡◌, ℕ, List, [], ◌∷◌, map, true, None};
+ghost use Rattle.std.specs.Prelude.{◌≡◌, ℕ, List, [], ◌∷◌, map, true, None, Some};
 ghost use Rattle.sb_text.specs.declared.token.Token.{Token};
 ghost use Rattle.sb_text.specs.Tokens.{lexed};
 ghost use Rattle.sb_text.specs.Statements.{parts};
 ghost use Rattle.spelling.specs.Lexemes.{Lexeme, IsStatements, lexemes_of, HasItem, Every};
 ghost use Rattle.spelling.specs.Layout.{layout, IsLexeme};
 ghost use Rattle.spelling.specs.Derivations.{SpellsDerivation};
-ghost use Rattle.spelling.specs.Catalogues.{CatalogueStatement, Site, Table, TablePart, table_from, catalogue_lexemes, SpellsCatalogueStatement, SpellsCatalogue};
+ghost use Rattle.spelling.specs.Catalogues.{CatalogueStatement, catalogue_of, catalogue_statements, Site, Table, TablePart, table_from, catalogue_lexemes, SpellsCatalogueStatement, SpellsCatalogue};
 ghost use Rattle.spelling.specs.Queries.{QueryStatement, only_column, query_lexemes, IsFree, SpellsQueryStatement, SpellsQuery};
 ghost use Rattle.spelling.specs.Formulas.{SpellsFormula, formula_lexemes};
-ghost use Rattle.spelling.specs.Rules.{SpellsStar, SpellsFormulaDef, formula_def_lexemes, SpellsRules};
+ghost use Rattle.spelling.specs.Rules.{SpellsStar, SpellsFormulaDef, formula_def_lexemes, rule_lexemes, SpellsRules};
 ghost use Rattle.spelling.specs.Tiny.{tiny_lexemes, tiny_rules};
+ghost use Rattle.star_model.specs.WellFormed.{WellFormedCatalogue};
 ghost use Rattle.star_model.specs.declared.catalogue.Catalogue.{Catalogue};
 ghost use Rattle.star_model.specs.declared.catalogue.SiteDef.{SiteDef};
 ghost use Rattle.star_model.specs.declared.catalogue.TableDef.{TableDef};
@@ -55,6 +56,12 @@ pub fn one_catalogue()
     ensures statement { (lexemes : List Lexeme) (s t : CatalogueStatement) → SpellsCatalogueStatement lexemes s → SpellsCatalogueStatement lexemes t → s ≡ t }
 {}
 
+/// How a well-formed catalogue is written means it, and is what its canonical text has to say.
+pub fn catalogues_are_written()
+    ensures means { (c : Catalogue) → WellFormedCatalogue c → catalogue_of (catalogue_statements c) ≡ Some c }
+    ensures spelled { (c : Catalogue) → WellFormedCatalogue c → (text : List ℕ) → IsStatements text (map catalogue_lexemes (catalogue_statements c)) → SpellsCatalogue text c }
+{}
+
 /// One text spells at most one query over a catalogue.
 pub fn one_query()
     ensures text { (catalogue : Catalogue) (text : List ℕ) (q r : Query) → SpellsQuery catalogue text q → SpellsQuery catalogue text r → q ≡ r }
@@ -77,6 +84,11 @@ pub fn one_rule_file()
     ensures text { (text : List ℕ) (a b : RuleFile) → SpellsRules text a → SpellsRules text b → a ≡ b }
     ensures star { (n : ℕ) (lexemes : List Lexeme) (s t : StarDef) → SpellsStar n lexemes s → SpellsStar n lexemes t → s ≡ t }
     ensures formula { (n : ℕ) (lexemes : List Lexeme) (d f : FormulaDef) → SpellsFormulaDef n lexemes d → SpellsFormulaDef n lexemes f → d ≡ f }
+{}
+
+/// Where some text spells a rule file, so does each text with its own statements in the order of their numbers.
+pub fn rule_files_are_written()
+    ensures { (text : List ℕ) (rules : RuleFile) → SpellsRules text rules → (other : List ℕ) → IsStatements other (rule_lexemes rules) → SpellsRules other rules }
 {}
 
 /// What the smallest texts spell: the smallest rule file that is accepted, one site with one table at it, and a query for the

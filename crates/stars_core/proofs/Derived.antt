@@ -1,0 +1,147 @@
+-- What follows from the answer of the top call.
+use Rattle.std.proofs.Common.{◌≡◌, ◌++◌, ℕ, List, [], ◌∷◌, take, Option, None, Some, refl, ap, sym, ◌∙◌, subst, inl, inr, zero, suc}
+use Rattle.std.specs.Prelude.{slice_get}
+use Rattle.std.proofs.lemmas.List.{append-nil, append_assoc}
+use Rattle.sb_outside.specs.Shelf.{Files, ShelfState}
+use Rattle.sb_outside.specs.Sink.{SinkState}
+use Rattle.stars_core.specs.declared.command.Command.{Command}
+use Rattle.stars_core.specs.declared.command.Command.TheVariants.{Plan}
+use Rattle.stars_core.specs.declared.refusal.TextKind.{TextKind}
+use Rattle.stars_core.specs.declared.refusal.TextKind.TheVariants as kinds
+use Rattle.stars_core.specs.declared.status.Found.{Found}
+use Rattle.stars_core.specs.declared.status.Found.TheVariants.{Planned, Unplanned}
+use Rattle.stars_core.specs.declared.status.Status.{Status}
+use Rattle.stars_core.specs.declared.status.Status.TheVariants.{Done, NoPlan, Usage, RulesRefused, CatalogueRefused, QueryRefused, TableRefused, ReadFault, WriteFault, Memory, NotDerived, DerivationRefused, SessionRefused, CertificateRefused}
+use Rattle.stars_core.specs.CommandLine.{CommandLine, Request, command_of, requests_of}
+use Rattle.stars_core.specs.Lines.{refused_status}
+use Rattle.stars_core.specs.Built.{Given}
+use Rattle.stars_core.specs.Faults.{Stops, PassAll}
+use Rattle.stars_core.specs.Plan.{three}
+use Rattle.stars_core.specs.Shelves.{HeldAs, RefusedAt, PlanAnswered, Puts}
+use Rattle.stars_core.specs.Answers.{OfCommand, Answered, RefusedExactly, StopTold, LinePut}
+use Rattle.stars_core.proofs.FaultLaws.{one_stop, stopped_passes}
+
+of_command : (words : CommandLine) (command : Command) (P : Command → Type 0) → command_of words ≡ Some command → OfCommand words P → P command
+of_command words command P is of = rw is at of
+
+not_command : (words : CommandLine) (P : Command → Type 0) → command_of words ≡ None → OfCommand words P → ⊥
+not_command words P is of = rw is at of
+
+same_given : (a : Request) (files : Files) (x y : Given) → x.0 ≡ a.0 → files a.1 ≡ Some x.1 → y.0 ≡ a.0 → files a.1 ≡ Some y.1 → x ≡ y
+same_given a files (k, b) (l, d) e f e' f' =
+    let same : Some b ≡ Some d = sym f ∙ f' in
+    let bytes : b ≡ d = cc in
+    let kind : k ≡ l = e ∙ sym e' in cc
+
+front_nil : (before : List Given) (this : Given) (line : List ℕ) → Stops (before ++ []) this line → Stops before this line
+front_nil before this line stops = subst (λ (l : List Given). Stops l this line) (append-nil before) stops
+
+-- no text is stopped where all are accepted
+pub none_stops : (files : Files) (before : List Given) (requests : List Request) (given : List Given) (place : ℕ) (this : Request) (earlier : List Given) (bytes line : List ℕ)
+    → HeldAs (Some files) requests given → PassAll before given
+    → slice_get requests place ≡ Some this → HeldAs (Some files) (take place requests) earlier → files this.1 ≡ Some bytes → Stops (before ++ earlier) (this.0, bytes) line → ⊥
+none_stops files before [] given place this earlier bytes line all pass here held told stops = absurd cc
+none_stops files before (a ∷ requests) [] place this earlier bytes line all pass here held told stops = all
+none_stops files before (a ∷ requests) (g ∷ given) zero this [] bytes line all pass here held told stops =
+    let same : a ≡ this = cc in
+    let e : g ≡ (this.0, bytes) = same_given this files g (this.0, bytes) (rw (← same) all.0) (rw (← same) all.1) refl told in
+    stopped_passes before (this.0, bytes) line (front_nil before (this.0, bytes) line stops) (rw e at pass.0)
+none_stops files before (a ∷ requests) (g ∷ given) zero this (x ∷ earlier) bytes line all pass here held told stops = held
+none_stops files before (a ∷ requests) (g ∷ given) (suc place) this [] bytes line all pass here held told stops = held
+none_stops files before (a ∷ requests) (g ∷ given) (suc place) this (x ∷ earlier) bytes line all pass here held told stops =
+    let e : x ≡ g = same_given a files x g held.0 held.1 all.0 all.1 in
+    let stops' : Stops ((before ++ g ∷ []) ++ earlier) (this.0, bytes) line =
+    subst (λ (l : List Given). Stops l (this.0, bytes) line) (ap (λ (y : Given). before ++ (y ∷ earlier)) e ∙ sym (append_assoc before (g ∷ []) earlier)) stops
+    in none_stops files (before ++ g ∷ []) requests given place this earlier bytes line all.2 pass.1 here held.2 told stops'
+
+-- at most one text is stopped, with one line
+pub one_place : (files : Files) (before : List Given) (requests : List Request) (p q : ℕ) (this that : Request) (earlier earlier' : List Given) (bytes bytes' line line' : List ℕ)
+    → slice_get requests p ≡ Some this → HeldAs (Some files) (take p requests) earlier → PassAll before earlier → files this.1 ≡ Some bytes → Stops (before ++ earlier) (this.0, bytes) line
+    → slice_get requests q ≡ Some that → HeldAs (Some files) (take q requests) earlier' → PassAll before earlier' → files that.1 ≡ Some bytes' → Stops (before ++ earlier') (that.0, bytes') line'
+    → (this ≡ that) × (line ≡ line')
+one_place files before [] p q this that e e' b b' l l' here held pass told stops here' held' pass' told' stops' = absurd cc
+one_place files before (a ∷ requests) zero zero this that [] [] b b' l l' here held pass told stops here' held' pass' told' stops' =
+    let same : a ≡ this = cc in
+    let same' : a ≡ that = cc in
+    let both : that ≡ this = sym same' ∙ same in
+    let stops2 = rw both at stops' in
+    let told2 = rw both at told' in
+    let eq : Some b ≡ Some b' = sym told ∙ told2 in
+    let bytes : b' ≡ b = cc in
+    let stops3 = rw bytes at stops2 in
+    (sym both, one_stop before (this.0, b) l l' (front_nil before (this.0, b) l stops) (front_nil before (this.0, b) l' stops3))
+one_place files before (a ∷ requests) zero q this that (x ∷ e) e' b b' l l' here held pass told stops here' held' pass' told' stops' = absurd held
+one_place files before (a ∷ requests) zero zero this that [] (x ∷ e') b b' l l' here held pass told stops here' held' pass' told' stops' = absurd held'
+one_place files before (a ∷ requests) zero (suc q) this that [] [] b b' l l' here held pass told stops here' held' pass' told' stops' = absurd held'
+one_place files before (a ∷ requests) zero (suc q) this that [] (x ∷ e') b b' l l' here held pass told stops here' held' pass' told' stops' =
+    let same : a ≡ this = cc in
+    let e : x ≡ (this.0, b) = same_given this files x (this.0, b) (rw (← same) held'.0) (rw (← same) held'.1) refl told in
+    absurd (stopped_passes before (this.0, b) l (front_nil before (this.0, b) l stops) (rw e at pass'.0))
+one_place files before (a ∷ requests) (suc p) q this that [] e' b b' l l' here held pass told stops here' held' pass' told' stops' = absurd held
+one_place files before (a ∷ requests) (suc p) zero this that (x ∷ e) (y ∷ e') b b' l l' here held pass told stops here' held' pass' told' stops' = absurd held'
+one_place files before (a ∷ requests) (suc p) zero this that (x ∷ e) [] b b' l l' here held pass told stops here' held' pass' told' stops' =
+    let same : a ≡ that = cc in
+    let eq : x ≡ (that.0, b') = same_given that files x (that.0, b') (rw (← same) held.0) (rw (← same) held.1) refl told' in
+    absurd (stopped_passes before (that.0, b') l' (front_nil before (that.0, b') l' stops') (rw eq at pass.0))
+one_place files before (a ∷ requests) (suc p) (suc q) this that (x ∷ e) [] b b' l l' here held pass told stops here' held' pass' told' stops' = absurd held'
+one_place files before (a ∷ requests) (suc p) (suc q) this that (x ∷ e) (y ∷ e') b b' l l' here held pass told stops here' held' pass' told' stops' =
+    let eq : y ≡ x = same_given a files y x held'.0 held'.1 held.0 held.1 in
+    let pass2 : PassAll (before ++ x ∷ []) e' = subst (λ (z : Given). PassAll (before ++ z ∷ []) e') eq pass'.1 in
+    let s : Stops ((before ++ x ∷ []) ++ e) (this.0, b) l = subst (λ (z : List Given). Stops z (this.0, b) l) (sym (append_assoc before (x ∷ []) e)) stops in
+    let s' : Stops ((before ++ x ∷ []) ++ e') (that.0, b') l' =
+    subst (λ (z : List Given). Stops z (that.0, b') l') (ap (λ (z : Given). before ++ (z ∷ e')) eq ∙ sym (append_assoc before (x ∷ []) e')) stops'
+    in one_place files (before ++ x ∷ []) requests p q this that e e' b b' l l' here held.2 pass.1 told s here' held'.2 pass2 told' s'
+
+-- a text that is refused where all that are requests for are accepted
+refused_none : (kind : TextKind) (shelf shelf' : ShelfState) (requests : List Request) (line : List ℕ) (files : Files) (given : List Given)
+    → RefusedAt shelf shelf' requests kind line → shelf.held ≡ Some files → HeldAs (Some files) requests given → PassAll [] given → ⊥
+refused_none kind shelf shelf' requests line files given t told held pass =
+    none_stops files [] requests given t.0 t.1 t.2 t.3 line held pass t.4.here (rw told at t.4.held) (rw told at t.6.told) t.6.stops
+
+-- what is put out is put of texts that are accepted
+puts_pass : (command : Command) (told : Option Files) (words : CommandLine) (found : Found) (pieces : List (List ℕ)) → Puts command told words found pieces
+    → (given : List Given) × HeldAs told (requests_of command words) given × PassAll [] given
+puts_pass Plan told words found pieces puts =
+    let a = puts.1 in (three a.0 a.1 a.2, a.3.held, a.3.accepted)
+
+stop_none : (words : CommandLine) (shelf : ShelfState) (place : ℕ) (this : Request) (earlier : List Given) (bytes line : List ℕ) (found : Found) (pieces : List (List ℕ))
+    → (st : StopTold words shelf place this earlier bytes line) → Puts st.command shelf.held words found pieces → ⊥
+stop_none words shelf place this earlier bytes line found pieces st puts =
+    let g = puts_pass st.command (Some st.files) words found pieces (subst (λ (x : Option Files). Puts st.command x words found pieces) st.told puts) in
+    none_stops st.files [] (requests_of st.command words) g.0 place this earlier bytes line g.1 g.2 st.here st.held st.bytes_held st.stops
+
+refused_same : (kind : TextKind) (words : CommandLine) (shelf shelf' : ShelfState) (err err' : SinkState) (place : ℕ) (this : Request) (earlier : List Given) (bytes line line' : List ℕ)
+    → (st : StopTold words shelf place this earlier bytes line) → RefusedAt shelf shelf' (requests_of st.command words) kind line' → LinePut err err' line'
+    → (refused_status kind ≡ refused_status this.0) × LinePut err err' line
+refused_same kind words shelf shelf' err err' place this earlier bytes line line' st t put =
+    let u =
+    one_place st.files [] (requests_of st.command words) place t.0 this t.1 earlier t.2 bytes t.3 line line' st.here st.held st.accepted st.bytes_held st.stops
+    t.4.here (rw st.told at t.4.held) t.4.accepted (rw st.told at t.6.told) t.6.stops
+    in
+    let same : kind ≡ this.0 = t.5 ∙ sym (ap (λ (x : Request). x.0) u.0) in
+    (ap (λ (k : TextKind). refused_status k) same, subst (λ (l : List ℕ). LinePut err err' l) (sym u.1) put)
+
+pub refused_exactly : (status : Status) (words : CommandLine) (shelf shelf' : ShelfState) (out out' err err' : SinkState) → Answered status words shelf shelf' out out' err err'
+    → RefusedExactly status words shelf shelf' err err'
+refused_exactly Done words shelf shelf' out out' err err' answered place this earlier bytes line st quiet =
+    let a = rw st.listed at answered in absurd (stop_none words shelf place this earlier bytes line Planned a.1 st a.2)
+refused_exactly NoPlan words shelf shelf' out out' err err' answered place this earlier bytes line st quiet =
+    let a = rw st.listed at answered in absurd (stop_none words shelf place this earlier bytes line Unplanned a.1 st a.2)
+refused_exactly WriteFault words shelf shelf' out out' err err' answered place this earlier bytes line st quiet =
+    let a = rw st.listed at answered in absurd (stop_none words shelf place this earlier bytes line a.1 a.2 st a.3)
+refused_exactly Usage words shelf shelf' out out' err err' answered place this earlier bytes line st quiet =
+    let e : Some st.command ≡ None = sym st.listed ∙ answered.2.0 in absurd cc
+refused_exactly RulesRefused words shelf shelf' out out' err err' answered place this earlier bytes line st quiet =
+    inr (refused_same kinds.Rules words shelf shelf' err err' place this earlier bytes line answered.1 st (rw st.listed at answered.2) answered.3)
+refused_exactly CatalogueRefused words shelf shelf' out out' err err' answered place this earlier bytes line st quiet =
+    inr (refused_same kinds.Catalogue words shelf shelf' err err' place this earlier bytes line answered.1 st (rw st.listed at answered.2) answered.3)
+refused_exactly QueryRefused words shelf shelf' out out' err err' answered place this earlier bytes line st quiet =
+    inr (refused_same kinds.Query words shelf shelf' err err' place this earlier bytes line answered.1 st (rw st.listed at answered.2) answered.3)
+refused_exactly ReadFault words shelf shelf' out out' err err' answered place this earlier bytes line st quiet =
+    let u = rw st.listed at answered.2 in absurd (quiet u.4.rose)
+refused_exactly Memory words shelf shelf' out out' err err' answered place this earlier bytes line st quiet = inl refl
+refused_exactly TableRefused words shelf shelf' out out' err err' answered place this earlier bytes line st quiet = absurd answered.2
+refused_exactly NotDerived words shelf shelf' out out' err err' answered place this earlier bytes line st quiet = absurd answered.2
+refused_exactly DerivationRefused words shelf shelf' out out' err err' answered place this earlier bytes line st quiet = absurd answered.2
+refused_exactly SessionRefused words shelf shelf' out out' err err' answered place this earlier bytes line st quiet = absurd answered.2
+refused_exactly CertificateRefused words shelf shelf' out out' err err' answered place this earlier bytes line st quiet = absurd answered.2

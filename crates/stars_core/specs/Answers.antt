@@ -1,0 +1,97 @@
+-- The answers of the top call, with the cause of each.
+use Rattle.std.specs.Prelude.{◌≡◌, ◌⊎◌, ◌≤◌, ℕ, List, [], length, take, slice_get, Option, None, Some, IsSomeAnd, IsSome}
+use Rattle.std.specs.List.{concat}
+use Rattle.sb_outside.specs.Counts.{Rose, RoseAtMost}
+use Rattle.sb_outside.specs.Shelf.{Files, ShelfState, NoFault}
+use Rattle.sb_outside.specs.Sink.{SinkState, Adds, AddsPrefix}
+use Rattle.stars_core.specs.declared.command.Command.{Command}
+use Rattle.stars_core.specs.declared.command.Command.TheVariants.{Plan}
+use Rattle.stars_core.specs.declared.refusal.TextKind.{TextKind}
+use Rattle.stars_core.specs.declared.refusal.TextKind.TheVariants as kinds
+use Rattle.stars_core.specs.declared.status.Found.{Found}
+use Rattle.stars_core.specs.declared.status.Found.TheVariants.{Planned, Unplanned}
+use Rattle.stars_core.specs.declared.status.Status.{Status}
+use Rattle.stars_core.specs.declared.status.Status.TheVariants.{Done, NoPlan, Usage, RulesRefused, CatalogueRefused, QueryRefused, ReadFault, WriteFault, Memory}
+use Rattle.stars_core.specs.CommandLine.{CommandLine, Request, command_of, requests_of}
+use Rattle.stars_core.specs.Lines.{usage_line, cannot_write, out_of_memory, refused_status}
+use Rattle.stars_core.specs.Built.{Given}
+use Rattle.stars_core.specs.Faults.{Stops, PassAll}
+use Rattle.stars_core.specs.Plan.{Plans, three}
+use Rattle.stars_core.specs.Shelves.{HeldAs, RefusedAt, UnreadAt, Puts}
+
+-- the words are a listed form, and P holds of the command
+abbrev pub OfCommand : CommandLine → (Command → Type 0) → Type 0
+OfCommand words P = IsSomeAnd (command_of words) P
+
+-- a text is refused with this line
+abbrev pub RefusedBy : TextKind → CommandLine → ShelfState → ShelfState → List ℕ → Type 0
+RefusedBy kind words before now line = OfCommand words (λ command. RefusedAt before now (requests_of command words) kind line)
+
+abbrev pub Unreadable : CommandLine → ShelfState → ShelfState → List ℕ → Type 0
+Unreadable words before now line = OfCommand words (λ command. UnreadAt before now (requests_of command words) line)
+
+-- why a status comes with which nothing is put out, and its line
+abbrev pub Caused : Status → CommandLine → ShelfState → ShelfState → List ℕ → Type 0
+Caused Usage words before now line = (command_of words ≡ None) × (now ≡ before) × (line ≡ usage_line)
+Caused RulesRefused words before now line = RefusedBy kinds.Rules words before now line
+Caused CatalogueRefused words before now line = RefusedBy kinds.Catalogue words before now line
+Caused QueryRefused words before now line = RefusedBy kinds.Query words before now line
+Caused ReadFault words before now line = Unreadable words before now line
+Caused Memory words before now line = IsSome (command_of words) × (line ≡ out_of_memory)
+Caused _ words before now line = ⊥
+
+-- a line was put, or a prefix of it and the sink failed
+pub record LinePut (before now : SinkState) (line : List ℕ) : Type 0 where
+  pub puts : RoseAtMost 1 before.puts now.puts
+  pub added : Adds before.taken line now.taken ⊎ (AddsPrefix before.taken line now.taken × Rose before.faults now.faults)
+
+-- the pieces of a command were put out, all of them
+pub record AllPut (pieces : List (List ℕ)) (out out' err err' : SinkState) : Type 0 where
+  pub added : Adds out.taken (concat pieces) out'.taken
+  pub faults : out'.faults ≡ out.faults
+  pub puts : RoseAtMost (length pieces) out.puts out'.puts
+  pub silent : err' ≡ err
+
+-- a part of them was, and then the sink failed
+pub record PartPut (pieces : List (List ℕ)) (out out' err err' : SinkState) : Type 0 where
+  pub added : AddsPrefix out.taken (concat pieces) out'.taken
+  pub rose : Rose out.faults out'.faults
+  pub puts : RoseAtMost (length pieces) out.puts out'.puts
+  pub told : LinePut err err' cannot_write
+
+abbrev pub Output : Found → CommandLine → ShelfState → ShelfState → SinkState → SinkState → SinkState → SinkState → Type 0
+Output found words shelf shelf' out out' err err' = OfCommand words (λ command.
+    NoFault shelf shelf' × (pieces : List (List ℕ)) × Puts command shelf.held words found pieces × AllPut pieces out out' err err')
+
+-- each status, with its cause and with what it puts
+abbrev pub Answered : Status → CommandLine → ShelfState → ShelfState → SinkState → SinkState → SinkState → SinkState → Type 0
+Answered Done words shelf shelf' out out' err err' = Output Planned words shelf shelf' out out' err err'
+Answered NoPlan words shelf shelf' out out' err err' = Output Unplanned words shelf shelf' out out' err err'
+Answered WriteFault words shelf shelf' out out' err err' = OfCommand words (λ command.
+    NoFault shelf shelf' × (found : Found) × (pieces : List (List ℕ)) × Puts command shelf.held words found pieces × PartPut pieces out out' err err')
+Answered status words shelf shelf' out out' err err' =
+    (out' ≡ out) × (line : List ℕ) × Caused status words shelf shelf' line × LinePut err err' line
+
+-- a told text that is stopped, after told texts that are accepted
+pub record StopTold (words : CommandLine) (shelf : ShelfState) (place : ℕ) (this : Request) (earlier : List Given) (bytes line : List ℕ) : Type 0 where
+  pub files : Files
+  pub told : shelf.held ≡ Some files
+  pub command : Command
+  pub listed : command_of words ≡ Some command
+  pub here : slice_get (requests_of command words) place ≡ Some this
+  pub held : HeldAs (Some files) (take place (requests_of command words)) earlier
+  pub accepted : PassAll [] earlier
+  pub bytes_held : files this.1 ≡ Some bytes
+  pub stops : Stops earlier (this.0, bytes) line
+
+-- Where nothing failed, such a text is refused with its line, or memory was wanting.
+abbrev pub RefusedExactly : Status → CommandLine → ShelfState → ShelfState → SinkState → SinkState → Type 0
+RefusedExactly status words shelf shelf' err err' =
+    (place : ℕ) (this : Request) (earlier : List Given) (bytes line : List ℕ) → StopTold words shelf place this earlier bytes line
+    → (Rose shelf.faults shelf'.faults → ⊥)
+    → (status ≡ Memory) ⊎ ((status ≡ refused_status this.0) × LinePut err err' line)
+
+-- how many files a command asks for at most
+abbrev pub calls_of : CommandLine → Option Command → ℕ
+calls_of words None = 0
+calls_of words (Some command) = length (requests_of command words)

@@ -1,0 +1,43 @@
+-- The listed forms of a command line, and the files that each command asks for.
+use Rattle.std.specs.Prelude.{ℕ, Bool, false, ◌==◌, ◌&&◌, List, [], ◌∷◌, length, map, Option, None, Some, slice_index_or, if◌then◌else◌, codes, String, string_bytes}
+use Rattle.std.specs.List.{list_any}
+use Rattle.std.specs.Str.{bytes_eq}
+use Rattle.std.specs.declared.alloc.Global.{Global}
+use Rattle.stars_core.specs.declared.command.Command.{Command}
+use Rattle.stars_core.specs.declared.command.Command.TheVariants.{Plan}
+use Rattle.stars_core.specs.declared.refusal.TextKind.{TextKind}
+use Rattle.stars_core.specs.declared.refusal.TextKind.TheVariants.{Rules, Catalogue, Query}
+
+-- the words behind the program's name
+abbrev pub CommandLine : Type 0
+CommandLine = List (List ℕ)
+
+abbrev pub bytes_of : List (String Global) → CommandLine
+bytes_of words = map string_bytes words
+
+abbrev pub begins_dash : List ℕ → Bool
+begins_dash [] = false
+begins_dash (b ∷ bytes) = b == 45
+
+-- plan RULES CATALOGUE QUERY
+abbrev pub listed : CommandLine → Option Command
+listed [] = None
+listed (word ∷ names) = if bytes_eq word (codes "plan") && length names == 3 then Some Plan else None
+
+-- no word begins with a dash, and the words are a command and its names
+abbrev pub command_of : CommandLine → Option Command
+command_of words = if list_any begins_dash words then None else listed words
+
+-- a file that is asked for: what its text is to be, and its name
+abbrev pub Request : Type 0
+Request = TextKind × List ℕ
+
+abbrev pub word_at : CommandLine → ℕ → List ℕ
+word_at words place = slice_index_or words place []
+
+abbrev pub three_requests : List ℕ → List ℕ → List ℕ → List Request
+three_requests rules catalogue query = (Rules, rules) ∷ (Catalogue, catalogue) ∷ (Query, query) ∷ []
+
+-- the files that a command asks for, in order
+abbrev pub requests_of : Command → CommandLine → List Request
+requests_of Plan words = three_requests (word_at words 1) (word_at words 2) (word_at words 3)

@@ -1,0 +1,10 @@
+pub mod CommandLine
+pub mod Lines
+pub mod HeapRules
+pub mod Built
+pub mod Cut
+pub mod Faults
+pub mod Judging
+pub mod Plan
+pub mod Shelves
+pub mod Answers

@@ -1,0 +1,41 @@
+// What the commands put out.
+ghost use Rattle.std.specs.Prelude.{◌≡◌, [], ◌∷◌};
+ghost use Rattle.stars_core.specs.CommandLine.{bytes_of, command_of, three_requests};
+ghost use Rattle.sb_outside.specs.Shelf.{GoesBy};
+ghost use Rattle.stars_core.specs.Shelves.{Composed, PlanRan};
+
+use crate::command::{find_command, word_at};
+use crate::read::fetch;
+use crate::{Answer, Command, Refusal, TextKind, judge};
+use sb_outside::Shelf;
+use std::alloc::Global;
+
+fn plan<S: Shelf>(
+    alloc: Global,
+    shelf: &mut S,
+    rules: &str,
+    catalogue: &str,
+    query: &str,
+) -> Result<Answer, Refusal>
+    ensures goes { GoesBy 3 (S.state shelf.old) (S.state shelf.new) }
+    ensures ran { PlanRan (S.state shelf.old) (S.state shelf.new) (three_requests rules.now catalogue.now query.now) result }
+{
+    let r = fetch(alloc, shelf, TextKind::Rules, rules)?;
+    Err(judge(alloc, TextKind::Rules, r.as_slice()))
+}
+
+/// What the words ask to be put out, or why nothing is.
+pub fn compose<S: Shelf>(alloc: Global, words: &[String], shelf: &mut S) -> Result<Answer, Refusal>
+    ensures { Composed (S.state shelf.old) (S.state shelf.new) (bytes_of words.now) (command_of (bytes_of words.now)) result }
+{
+    match find_command(words) {
+        None => Err(Refusal::Usage),
+        Some(Command::Plan) => plan(
+            alloc,
+            shelf,
+            word_at(words, 1),
+            word_at(words, 2),
+            word_at(words, 3),
+        ),
+    }
+}

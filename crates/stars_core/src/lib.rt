@@ -1,0 +1,21 @@
+//! The top call: from words, a shelf and two sinks to a status.
+#![tactic(auto)]
+
+mod answer;
+mod built;
+mod command;
+mod compose;
+mod judging;
+mod laws;
+mod read;
+mod refusal;
+mod status;
+mod top;
+
+pub use answer::Answer;
+pub use command::{Command, find_command};
+pub use judging::judge;
+pub use laws::one_verdict;
+pub use refusal::{Refusal, TextKind};
+pub use status::{Found, Status};
+pub use top::stars;

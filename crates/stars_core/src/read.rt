@@ -1,0 +1,53 @@
+// The fetching of one file.
+ghost use Rattle.std.specs.Prelude.{◌≡◌, ◌++◌, IfOk, string_bytes};
+ghost use Rattle.sb_outside.specs.Shelf.{Goes};
+ghost use Rattle.stars_core.specs.Lines.{prefix, too_long_line, cannot_read};
+ghost use Rattle.stars_core.specs.Shelves.{Fetched};
+
+use crate::{Refusal, TextKind};
+use sb_outside::{Shelf, ShelfFault};
+use std::alloc::{AllocError, Global};
+
+/// The greatest length of a text, in bytes.
+pub const LIMIT: usize = 1_048_576;
+
+pub fn prefix(kind: TextKind) -> &'static str
+    ensures { result.now ≡ prefix kind }
+{
+    match kind {
+        TextKind::Rules => "rules: ",
+        TextKind::Catalogue => "catalogue: ",
+        TextKind::Query => "query: ",
+    }
+}
+
+pub fn too_long_line(alloc: Global, kind: TextKind) -> Result<String, AllocError>
+    ensures { IfOk result (λ line. string_bytes line ≡ too_long_line kind) }
+{
+    let prefix = prefix(kind);
+    format!(in alloc; "{prefix}longer than 1048576 bytes\n")
+}
+
+fn unread_line(alloc: Global, name: &str) -> Result<String, AllocError>
+    ensures { IfOk result (λ line. string_bytes line ≡ cannot_read name.now) }
+{
+    format!(in alloc; "cannot read {name}\n")
+}
+
+// The bytes of the file of this name, whose text is to be of this kind.
+pub fn fetch<S: Shelf>(
+    alloc: Global,
+    shelf: &mut S,
+    kind: TextKind,
+    name: &str,
+) -> Result<Vec<u8>, Refusal>
+    ensures goes { Goes (S.state shelf.old) (S.state shelf.new) }
+    ensures fetched { Fetched (S.state shelf.old) (S.state shelf.new) (kind, name.now) result }
+{
+    match shelf.bytes(alloc, name, LIMIT) {
+        Ok(text) => Ok(text),
+        Err(ShelfFault::Failed) => Err(Refusal::Unread(unread_line(alloc, name)?)),
+        Err(ShelfFault::TooLong) => Err(Refusal::Refused(kind, too_long_line(alloc, kind)?)),
+        Err(ShelfFault::Memory) => Err(Refusal::Memory),
+    }
+}

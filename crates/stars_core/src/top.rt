@@ -1,0 +1,67 @@
+// The top call.
+ghost use Rattle.std.specs.Prelude.{◌≡◌, ◌↔◌, ◌⊎◌, ◌<◌, ◌≤◌, [], ◌∷◌, None, OnOk, OnErr};
+ghost use Rattle.sb_outside.specs.Counts.{Rose, RoseAtMost};
+ghost use Rattle.sb_outside.specs.Sink.{Adds, AddsPrefix};
+ghost use Rattle.stars_core.specs.CommandLine.{bytes_of, command_of};
+ghost use Rattle.stars_core.specs.Lines.{cannot_write};
+ghost use Rattle.stars_core.specs.Answers.{Answered, RefusedExactly, LinePut, calls_of};
+
+use crate::compose::compose;
+use crate::{Answer, Found, Status};
+use sb_outside::{Shelf, Sink, SinkFault};
+use std::alloc::Global;
+
+fn tell<E: Sink>(err: &mut E, line: &str)
+    ensures { LinePut (E.state err.old) (E.state err.new) line.now }
+{
+    match err.put(line.as_bytes()) {
+        Ok(()) => {}
+        Err(_) => {}
+    }
+}
+
+// Puts the text of an answer, in one piece.
+fn emit<O: Sink>(out: &mut O, answer: &Answer) -> Result<(), SinkFault>
+    ensures puts { RoseAtMost 1 (O.state out.old).puts (O.state out.new).puts }
+    ensures added { OnOk result (Adds (O.state out.old).taken answer.now.text.items (O.state out.new).taken) }
+    ensures no_fault { OnOk result ((O.state out.new).faults ≡ (O.state out.old).faults) }
+    ensures part { OnErr result (AddsPrefix (O.state out.old).taken answer.now.text.items (O.state out.new).taken) }
+    ensures failed { OnErr result (Rose (O.state out.old).faults (O.state out.new).faults) }
+{
+    out.put(answer.text.as_slice())
+}
+
+/// Does what the words ask, from the shelf to the two sinks.
+pub fn stars<S: Shelf, O: Sink, E: Sink>(
+    alloc: Global,
+    words: &[String],
+    shelf: &mut S,
+    out: &mut O,
+    err: &mut E,
+) -> Status
+    ensures usage { (result ≡ Status.Usage) ↔ (command_of (bytes_of words.now) ≡ None) }
+    ensures answer { Answered result (bytes_of words.now) (S.state shelf.old) (S.state shelf.new) (O.state out.old) (O.state out.new) (E.state err.old) (E.state err.new) }
+    ensures refused { RefusedExactly result (bytes_of words.now) (S.state shelf.old) (S.state shelf.new) (E.state err.old) (E.state err.new) }
+    ensures calls { RoseAtMost (calls_of (bytes_of words.now) (command_of (bytes_of words.now))) (S.state shelf.old).calls (S.state shelf.new).calls }
+    ensures read_faults { (S.state shelf.old).faults < (S.state shelf.new).faults → (result ≡ Status.ReadFault) ⊎ (result ≡ Status.Memory) }
+    ensures write_faults { (O.state out.old).faults < (O.state out.new).faults → result ≡ Status.WriteFault }
+    ensures puts { RoseAtMost 1 (O.state out.old).puts (O.state out.new).puts }
+    ensures lines { RoseAtMost 1 (E.state err.old).puts (E.state err.new).puts }
+{
+    match compose(alloc, words, shelf) {
+        Ok(answer) => match emit(out, &answer) {
+            Ok(()) => match answer.found {
+                Found::Planned => Status::Done,
+                Found::Unplanned => Status::NoPlan,
+            },
+            Err(_) => {
+                tell(err, "cannot write\n");
+                Status::WriteFault
+            }
+        },
+        Err(refusal) => {
+            tell(err, refusal.line());
+            refusal.status()
+        }
+    }
+}

@@ -1,0 +1,226 @@
+-- Written by tools/worked_plans.
+-- The rule files of the worked plans.
+use Rattle.std.specs.Prelude.{List, [], ◌∷◌, Some, None, codes}
+use Rattle.star_model.specs.FormulaCases as f
+use Rattle.star_model.specs.ValueCases as v
+use Rattle.star_model.specs.ConditionCases as c
+use Rattle.star_model.specs.PlanExprCases as e
+use Rattle.star_model.specs.declared.formula.Formula.TheVariants as formula
+use Rattle.star_model.specs.declared.formula.Var.TheVariants as var
+use Rattle.star_model.specs.declared.rules.ValueExpr.TheVariants as value
+use Rattle.star_model.specs.declared.rules.Condition.TheVariants as condition
+use Rattle.star_model.specs.declared.rules.PlanExpr.TheVariants as plan
+use Rattle.star_model.specs.declared.rules.Flavour.TheVariants as flavour
+use Rattle.star_model.specs.declared.rules.Which.TheVariants as which
+use Rattle.star_model.specs.declared.rules.Kind.TheVariants as kind
+use Rattle.star_model.specs.declared.rules.Range.TheVariants as range
+use Rattle.star_model.specs.declared.rules.FormulaDef.{FormulaDef}
+use Rattle.star_model.specs.declared.rules.RuleFile.{RuleFile}
+
+abbrev pub formulas_of_generator : List FormulaDef
+formulas_of_generator =
+    record { statement = 1; flavour = flavour.AccessHeap; which = which.Cost; formula = (f.Add (f.Mul (formula.Number 10) (formula.Variable var.Pages)) (f.Mul (formula.Variable var.Cpu) (formula.Variable var.Rows))) }
+    ∷ record { statement = 2; flavour = flavour.AccessHeap; which = which.Rescan; formula = (f.Add (f.Mul (formula.Number 10) (formula.Variable var.Pages)) (f.Mul (formula.Variable var.Cpu) (formula.Variable var.Rows))) }
+    ∷ record { statement = 3; flavour = flavour.AccessIndex; which = which.Cost; formula = (f.Add (f.Add (formula.Number 10) (f.Div (f.Mul (f.Mul (formula.Number 10) (formula.Variable var.Pages)) (formula.Variable var.Card)) (formula.Variable var.Rows))) (f.Mul (formula.Variable var.Cpu) (formula.Variable var.Card))) }
+    ∷ record { statement = 4; flavour = flavour.AccessIndex; which = which.Rescan; formula = (f.Add (f.Add (formula.Number 10) (f.Div (f.Mul (f.Mul (formula.Number 10) (formula.Variable var.Pages)) (formula.Variable var.Card)) (formula.Variable var.Rows))) (f.Mul (formula.Variable var.Cpu) (formula.Variable var.Card))) }
+    ∷ record { statement = 5; flavour = flavour.Get; which = which.Cost; formula = (f.Add (f.Add (formula.Variable var.Cost1) (f.Mul (formula.Number 10) (formula.Variable var.Card1))) (f.Mul (f.Mul (formula.Variable var.Cpu) (formula.Variable var.Card1)) (formula.Variable var.Preds))) }
+    ∷ record { statement = 6; flavour = flavour.Get; which = which.Rescan; formula = (f.Add (f.Add (formula.Variable var.Rescan1) (f.Mul (formula.Number 10) (formula.Variable var.Card1))) (f.Mul (f.Mul (formula.Variable var.Cpu) (formula.Variable var.Card1)) (formula.Variable var.Preds))) }
+    ∷ record { statement = 7; flavour = flavour.Filter; which = which.Cost; formula = (f.Add (formula.Variable var.Cost1) (f.Mul (f.Mul (formula.Variable var.Cpu) (formula.Variable var.Card1)) (formula.Variable var.Preds))) }
+    ∷ record { statement = 8; flavour = flavour.Filter; which = which.Rescan; formula = (f.Add (formula.Variable var.Rescan1) (f.Mul (f.Mul (formula.Variable var.Cpu) (formula.Variable var.Card1)) (formula.Variable var.Preds))) }
+    ∷ record { statement = 9; flavour = flavour.Sort; which = which.Cost; formula = (f.Add (formula.Variable var.Cost1) (f.Mul (f.Mul (formula.Number 4) (formula.Variable var.Cpu)) (formula.Variable var.Card1))) }
+    ∷ record { statement = 10; flavour = flavour.Sort; which = which.Rescan; formula = (f.Add (formula.Variable var.Rescan1) (f.Mul (f.Mul (formula.Number 4) (formula.Variable var.Cpu)) (formula.Variable var.Card1))) }
+    ∷ record { statement = 11; flavour = flavour.Store; which = which.Cost; formula = (f.Add (formula.Variable var.Cost1) (f.Mul (f.Mul (formula.Number 2) (formula.Variable var.Cpu)) (formula.Variable var.Card1))) }
+    ∷ record { statement = 12; flavour = flavour.Store; which = which.Rescan; formula = (f.Mul (formula.Variable var.Cpu) (formula.Variable var.Card1)) }
+    ∷ record { statement = 13; flavour = flavour.Ship; which = which.Cost; formula = (f.Add (formula.Variable var.Cost1) (f.Mul (f.Mul (formula.Variable var.Net) (formula.Variable var.Card1)) (formula.Variable var.Width1))) }
+    ∷ record { statement = 14; flavour = flavour.Ship; which = which.Rescan; formula = (f.Add (formula.Variable var.Rescan1) (f.Mul (f.Mul (formula.Variable var.Net) (formula.Variable var.Card1)) (formula.Variable var.Width1))) }
+    ∷ record { statement = 15; flavour = flavour.Probe; which = which.Cost; formula = (f.Add (formula.Variable var.Cost1) (f.Mul (formula.Variable var.Cpu) (f.Add (formula.Number 1) (formula.Variable var.Card)))) }
+    ∷ record { statement = 16; flavour = flavour.Probe; which = which.Rescan; formula = (f.Mul (formula.Variable var.Cpu) (f.Add (formula.Number 1) (formula.Variable var.Card))) }
+    ∷ record { statement = 17; flavour = flavour.JoinNl; which = which.Cost; formula = (f.Add (f.Add (formula.Variable var.Cost1) (formula.Variable var.Cost2)) (f.Mul (f.Sub (formula.Variable var.Card1) (formula.Number 1)) (formula.Variable var.Rescan2))) }
+    ∷ record { statement = 18; flavour = flavour.JoinNl; which = which.Rescan; formula = (f.Add (formula.Variable var.Rescan1) (f.Mul (formula.Variable var.Card1) (formula.Variable var.Rescan2))) }
+    ∷ record { statement = 19; flavour = flavour.JoinMerge; which = which.Cost; formula = (f.Add (f.Add (formula.Variable var.Cost1) (formula.Variable var.Cost2)) (f.Mul (formula.Variable var.Cpu) (f.Add (formula.Variable var.Card1) (formula.Variable var.Card2)))) }
+    ∷ record { statement = 20; flavour = flavour.JoinMerge; which = which.Rescan; formula = (f.Add (f.Add (formula.Variable var.Rescan1) (formula.Variable var.Rescan2)) (f.Mul (formula.Variable var.Cpu) (f.Add (formula.Variable var.Card1) (formula.Variable var.Card2)))) }
+    ∷ record { statement = 21; flavour = flavour.JoinHash; which = which.Cost; formula = (f.Add (f.Add (formula.Variable var.Cost1) (formula.Variable var.Cost2)) (f.Mul (formula.Variable var.Cpu) (f.Add (formula.Variable var.Card1) (f.Mul (formula.Number 2) (formula.Variable var.Card2))))) }
+    ∷ record { statement = 22; flavour = flavour.JoinHash; which = which.Rescan; formula = (f.Add (f.Add (formula.Variable var.Rescan1) (formula.Variable var.Rescan2)) (f.Mul (formula.Variable var.Cpu) (f.Add (formula.Variable var.Card1) (f.Mul (formula.Number 2) (formula.Variable var.Card2))))) }
+    ∷ []
+
+abbrev pub generator : RuleFile
+generator = record {
+  formulas = formulas_of_generator;
+  stars =
+      record { statement = 23; name = codes "AccessRoot"; params = (record { name = codes "A"; kind = kind.Stream } ∷ record { name = codes "J"; kind = kind.Preds } ∷ []); alternatives = (record { ranges = []; condition = None; body = (plan.Leaf flavour.AccessHeap ((value.Variable (codes "A") 0) ∷ (v.Union (v.Inside (v.Tables (value.Variable (codes "A") 0))) (value.Variable (codes "J") 1)) ∷ [])) } ∷ record { ranges = (record { name = codes "x"; range = range.Indexes (value.Variable (codes "A") 0) } ∷ []); condition = None; body = (plan.Leaf flavour.AccessIndex ((value.Variable (codes "A") 0) ∷ (value.Variable (codes "x") 2) ∷ (v.Union (v.Inside (v.Tables (value.Variable (codes "A") 0))) (value.Variable (codes "J") 1)) ∷ [])) } ∷ []) }
+      ∷ record { statement = 24; name = codes "JoinRoot"; params = (record { name = codes "A"; kind = kind.Stream } ∷ record { name = codes "B"; kind = kind.Stream } ∷ record { name = codes "J"; kind = kind.Preds } ∷ []); alternatives = (record { ranges = []; condition = None; body = (plan.Reference (codes "Both") ((value.Variable (codes "A") 0) ∷ (value.Variable (codes "B") 1) ∷ (value.Variable (codes "J") 2) ∷ (v.Between (v.Tables (value.Variable (codes "A") 0)) (v.Tables (value.Variable (codes "B") 1))) ∷ [])) } ∷ []) }
+      ∷ record { statement = 25; name = codes "Both"; params = (record { name = codes "A"; kind = kind.Stream } ∷ record { name = codes "B"; kind = kind.Stream } ∷ record { name = codes "J"; kind = kind.Preds } ∷ record { name = codes "P"; kind = kind.Preds } ∷ []); alternatives = (record { ranges = []; condition = Some (c.Not (condition.Empty (value.Variable (codes "P") 3))); body = (e.Binary flavour.JoinNl (value.NoPreds ∷ []) (plan.Glue (value.Variable (codes "A") 0) (value.Variable (codes "J") 2)) (plan.Glue (value.Variable (codes "B") 1) (v.Union (value.Variable (codes "J") 2) (value.Variable (codes "P") 3)))) } ∷ record { ranges = []; condition = Some (c.Not (condition.Empty (v.Equalities (value.Variable (codes "P") 3)))); body = (e.Binary flavour.JoinHash ((v.Equalities (value.Variable (codes "P") 3)) ∷ (v.Minus (value.Variable (codes "P") 3) (v.Equalities (value.Variable (codes "P") 3))) ∷ []) (plan.Glue (value.Variable (codes "A") 0) (value.Variable (codes "J") 2)) (plan.Glue (value.Variable (codes "B") 1) (value.Variable (codes "J") 2))) } ∷ []) }
+      ∷ [];
+}
+
+abbrev pub hash : RuleFile
+hash = record {
+  formulas = formulas_of_generator;
+  stars =
+      record { statement = 23; name = codes "AccessRoot"; params = (record { name = codes "A"; kind = kind.Stream } ∷ record { name = codes "J"; kind = kind.Preds } ∷ []); alternatives = (record { ranges = []; condition = None; body = (plan.Leaf flavour.AccessHeap ((value.Variable (codes "A") 0) ∷ (v.Union (v.Inside (v.Tables (value.Variable (codes "A") 0))) (value.Variable (codes "J") 1)) ∷ [])) } ∷ []) }
+      ∷ record { statement = 24; name = codes "JoinRoot"; params = (record { name = codes "A"; kind = kind.Stream } ∷ record { name = codes "B"; kind = kind.Stream } ∷ record { name = codes "J"; kind = kind.Preds } ∷ []); alternatives = (record { ranges = []; condition = Some (c.Not (condition.Empty (v.Equalities (v.Between (v.Tables (value.Variable (codes "A") 0)) (v.Tables (value.Variable (codes "B") 1)))))); body = (e.Binary flavour.JoinHash ((v.Equalities (v.Between (v.Tables (value.Variable (codes "A") 0)) (v.Tables (value.Variable (codes "B") 1)))) ∷ (v.Minus (v.Between (v.Tables (value.Variable (codes "A") 0)) (v.Tables (value.Variable (codes "B") 1))) (v.Equalities (v.Between (v.Tables (value.Variable (codes "A") 0)) (v.Tables (value.Variable (codes "B") 1))))) ∷ []) (plan.Glue (value.Variable (codes "A") 0) (value.Variable (codes "J") 2)) (plan.Glue (value.Variable (codes "B") 1) (value.Variable (codes "J") 2))) } ∷ []) }
+      ∷ [];
+}
+
+abbrev pub heaps : RuleFile
+heaps = record {
+  formulas = formulas_of_generator;
+  stars =
+      record { statement = 23; name = codes "AccessRoot"; params = (record { name = codes "A"; kind = kind.Stream } ∷ record { name = codes "J"; kind = kind.Preds } ∷ []); alternatives = (record { ranges = []; condition = None; body = (plan.Leaf flavour.AccessHeap ((value.Variable (codes "A") 0) ∷ (v.Union (v.Inside (v.Tables (value.Variable (codes "A") 0))) (value.Variable (codes "J") 1)) ∷ [])) } ∷ []) }
+      ∷ record { statement = 24; name = codes "JoinRoot"; params = (record { name = codes "A"; kind = kind.Stream } ∷ record { name = codes "B"; kind = kind.Stream } ∷ record { name = codes "J"; kind = kind.Preds } ∷ []); alternatives = (record { ranges = []; condition = None; body = (e.Binary flavour.JoinNl ((v.Between (v.Tables (value.Variable (codes "A") 0)) (v.Tables (value.Variable (codes "B") 1))) ∷ []) (plan.Glue (value.Variable (codes "A") 0) (value.Variable (codes "J") 2)) (plan.Glue (value.Variable (codes "B") 1) (value.Variable (codes "J") 2))) } ∷ []) }
+      ∷ [];
+}
+
+abbrev pub merge : RuleFile
+merge = record {
+  formulas = formulas_of_generator;
+  stars =
+      record { statement = 23; name = codes "AccessRoot"; params = (record { name = codes "A"; kind = kind.Stream } ∷ record { name = codes "J"; kind = kind.Preds } ∷ []); alternatives = (record { ranges = []; condition = None; body = (plan.Leaf flavour.AccessHeap ((value.Variable (codes "A") 0) ∷ (v.Union (v.Inside (v.Tables (value.Variable (codes "A") 0))) (value.Variable (codes "J") 1)) ∷ [])) } ∷ []) }
+      ∷ record { statement = 24; name = codes "JoinRoot"; params = (record { name = codes "A"; kind = kind.Stream } ∷ record { name = codes "B"; kind = kind.Stream } ∷ record { name = codes "J"; kind = kind.Preds } ∷ []); alternatives = (record { ranges = []; condition = None; body = (plan.Reference (codes "Keyed") ((value.Variable (codes "A") 0) ∷ (value.Variable (codes "B") 1) ∷ (value.Variable (codes "J") 2) ∷ (v.Equalities (v.Between (v.Tables (value.Variable (codes "A") 0)) (v.Tables (value.Variable (codes "B") 1)))) ∷ [])) } ∷ []) }
+      ∷ record { statement = 25; name = codes "Keyed"; params = (record { name = codes "A"; kind = kind.Stream } ∷ record { name = codes "B"; kind = kind.Stream } ∷ record { name = codes "J"; kind = kind.Preds } ∷ record { name = codes "M"; kind = kind.Preds } ∷ []); alternatives = (record { ranges = []; condition = Some (c.Not (condition.Empty (value.Variable (codes "M") 3))); body = (e.Binary flavour.JoinMerge ((value.Variable (codes "M") 3) ∷ value.NoPreds ∷ []) (plan.Glue (v.WithOrder (value.Variable (codes "A") 0) (v.Keys (value.Variable (codes "M") 3) (v.Tables (value.Variable (codes "A") 0)))) (value.Variable (codes "J") 2)) (plan.Glue (v.WithOrder (value.Variable (codes "B") 1) (v.Keys (value.Variable (codes "M") 3) (v.Tables (value.Variable (codes "B") 1)))) (value.Variable (codes "J") 2))) } ∷ []) }
+      ∷ [];
+}
+
+abbrev pub pushdown : RuleFile
+pushdown = record {
+  formulas = formulas_of_generator;
+  stars =
+      record { statement = 23; name = codes "AccessRoot"; params = (record { name = codes "A"; kind = kind.Stream } ∷ record { name = codes "J"; kind = kind.Preds } ∷ []); alternatives = (record { ranges = []; condition = None; body = (plan.Leaf flavour.AccessHeap ((value.Variable (codes "A") 0) ∷ (v.Union (v.Inside (v.Tables (value.Variable (codes "A") 0))) (value.Variable (codes "J") 1)) ∷ [])) } ∷ record { ranges = (record { name = codes "x"; range = range.Indexes (value.Variable (codes "A") 0) } ∷ []); condition = None; body = (plan.Leaf flavour.AccessIndex ((value.Variable (codes "A") 0) ∷ (value.Variable (codes "x") 2) ∷ (v.Union (v.Inside (v.Tables (value.Variable (codes "A") 0))) (value.Variable (codes "J") 1)) ∷ [])) } ∷ []) }
+      ∷ record { statement = 24; name = codes "JoinRoot"; params = (record { name = codes "A"; kind = kind.Stream } ∷ record { name = codes "B"; kind = kind.Stream } ∷ record { name = codes "J"; kind = kind.Preds } ∷ []); alternatives = (record { ranges = []; condition = None; body = (e.Binary flavour.JoinNl (value.NoPreds ∷ []) (plan.Glue (value.Variable (codes "A") 0) (value.Variable (codes "J") 2)) (plan.Glue (value.Variable (codes "B") 1) (v.Union (value.Variable (codes "J") 2) (v.Between (v.Tables (value.Variable (codes "A") 0)) (v.Tables (value.Variable (codes "B") 1)))))) } ∷ record { ranges = []; condition = None; body = (e.Binary flavour.JoinNl ((v.Between (v.Tables (value.Variable (codes "A") 0)) (v.Tables (value.Variable (codes "B") 1))) ∷ []) (plan.Glue (value.Variable (codes "A") 0) (value.Variable (codes "J") 2)) (plan.Glue (value.Variable (codes "B") 1) (value.Variable (codes "J") 2))) } ∷ []) }
+      ∷ [];
+}
+
+abbrev pub standard : RuleFile
+standard = record {
+  formulas = formulas_of_generator;
+  stars =
+      record { statement = 23; name = codes "AccessRoot"; params = (record { name = codes "A"; kind = kind.Stream } ∷ record { name = codes "J"; kind = kind.Preds } ∷ []); alternatives = (record { ranges = []; condition = None; body = (plan.Leaf flavour.AccessHeap ((value.Variable (codes "A") 0) ∷ (v.Union (v.Inside (v.Tables (value.Variable (codes "A") 0))) (value.Variable (codes "J") 1)) ∷ [])) } ∷ record { ranges = (record { name = codes "x"; range = range.Indexes (value.Variable (codes "A") 0) } ∷ []); condition = None; body = (plan.Leaf flavour.AccessIndex ((value.Variable (codes "A") 0) ∷ (value.Variable (codes "x") 2) ∷ (v.Indexable (value.Variable (codes "A") 0) (value.Variable (codes "x") 2) (v.Union (v.Inside (v.Tables (value.Variable (codes "A") 0))) (value.Variable (codes "J") 1))) ∷ [])) } ∷ record { ranges = (record { name = codes "x"; range = range.Indexes (value.Variable (codes "A") 0) } ∷ []); condition = None; body = (e.Unary flavour.Get ((value.Variable (codes "A") 0) ∷ (v.Minus (v.Union (v.Inside (v.Tables (value.Variable (codes "A") 0))) (value.Variable (codes "J") 1)) (v.Indexable (value.Variable (codes "A") 0) (value.Variable (codes "x") 2) (v.Union (v.Inside (v.Tables (value.Variable (codes "A") 0))) (value.Variable (codes "J") 1)))) ∷ []) (plan.Leaf flavour.AccessIndex ((value.Variable (codes "A") 0) ∷ (value.Variable (codes "x") 2) ∷ (v.Indexable (value.Variable (codes "A") 0) (value.Variable (codes "x") 2) (v.Union (v.Inside (v.Tables (value.Variable (codes "A") 0))) (value.Variable (codes "J") 1))) ∷ []))) } ∷ []) }
+      ∷ record { statement = 24; name = codes "JoinRoot"; params = (record { name = codes "A"; kind = kind.Stream } ∷ record { name = codes "B"; kind = kind.Stream } ∷ record { name = codes "J"; kind = kind.Preds } ∷ []); alternatives = (record { ranges = (record { name = codes "s"; range = range.Sites } ∷ []); condition = None; body = (plan.Reference (codes "JoinAt") ((v.WithSite (value.Variable (codes "A") 0) (value.Variable (codes "s") 3)) ∷ (v.WithSite (value.Variable (codes "B") 1) (value.Variable (codes "s") 3)) ∷ (value.Variable (codes "J") 2) ∷ (v.Between (v.Tables (value.Variable (codes "A") 0)) (v.Tables (value.Variable (codes "B") 1))) ∷ [])) } ∷ []) }
+      ∷ record { statement = 25; name = codes "JoinAt"; params = (record { name = codes "A"; kind = kind.Stream } ∷ record { name = codes "B"; kind = kind.Stream } ∷ record { name = codes "J"; kind = kind.Preds } ∷ record { name = codes "P"; kind = kind.Preds } ∷ []); alternatives = (record { ranges = []; condition = None; body = (e.Binary flavour.JoinNl (value.NoPreds ∷ []) (plan.Glue (value.Variable (codes "A") 0) (value.Variable (codes "J") 2)) (plan.Glue (value.Variable (codes "B") 1) (v.Union (value.Variable (codes "J") 2) (value.Variable (codes "P") 3)))) } ∷ record { ranges = []; condition = None; body = (e.Binary flavour.JoinNl ((value.Variable (codes "P") 3) ∷ []) (plan.Glue (value.Variable (codes "A") 0) (value.Variable (codes "J") 2)) (plan.Glue (v.WithTemp (value.Variable (codes "B") 1)) (value.Variable (codes "J") 2))) } ∷ record { ranges = []; condition = Some (c.Not (condition.Empty (v.Equalities (value.Variable (codes "P") 3)))); body = (plan.Reference (codes "Keyed") ((value.Variable (codes "A") 0) ∷ (value.Variable (codes "B") 1) ∷ (value.Variable (codes "J") 2) ∷ (value.Variable (codes "P") 3) ∷ (v.Equalities (value.Variable (codes "P") 3)) ∷ [])) } ∷ []) }
+      ∷ record { statement = 26; name = codes "Keyed"; params = (record { name = codes "A"; kind = kind.Stream } ∷ record { name = codes "B"; kind = kind.Stream } ∷ record { name = codes "J"; kind = kind.Preds } ∷ record { name = codes "P"; kind = kind.Preds } ∷ record { name = codes "M"; kind = kind.Preds } ∷ []); alternatives = (record { ranges = []; condition = None; body = (e.Binary flavour.JoinMerge ((value.Variable (codes "M") 4) ∷ (v.Minus (value.Variable (codes "P") 3) (value.Variable (codes "M") 4)) ∷ []) (plan.Glue (v.WithOrder (value.Variable (codes "A") 0) (v.Keys (value.Variable (codes "M") 4) (v.Tables (value.Variable (codes "A") 0)))) (value.Variable (codes "J") 2)) (plan.Glue (v.WithOrder (value.Variable (codes "B") 1) (v.Keys (value.Variable (codes "M") 4) (v.Tables (value.Variable (codes "B") 1)))) (value.Variable (codes "J") 2))) } ∷ record { ranges = []; condition = None; body = (e.Binary flavour.JoinHash ((value.Variable (codes "M") 4) ∷ (v.Minus (value.Variable (codes "P") 3) (value.Variable (codes "M") 4)) ∷ []) (plan.Glue (value.Variable (codes "A") 0) (value.Variable (codes "J") 2)) (plan.Glue (value.Variable (codes "B") 1) (value.Variable (codes "J") 2))) } ∷ record { ranges = []; condition = None; body = (e.Binary flavour.JoinNl (value.NoPreds ∷ []) (plan.Glue (value.Variable (codes "A") 0) (value.Variable (codes "J") 2)) (e.Unary flavour.Probe ((v.Keys (value.Variable (codes "M") 4) (v.Tables (value.Variable (codes "B") 1))) ∷ (v.Union (value.Variable (codes "P") 3) (v.Meet (value.Variable (codes "J") 2) (v.Crossing (v.Tables (value.Variable (codes "B") 1))))) ∷ []) (plan.Glue (v.WithPath (value.Variable (codes "B") 1) (v.Keys (value.Variable (codes "M") 4) (v.Tables (value.Variable (codes "B") 1)))) value.NoPreds))) } ∷ []) }
+      ∷ [];
+}
+
+abbrev pub stored_heaps : RuleFile
+stored_heaps = record {
+  formulas = formulas_of_generator;
+  stars =
+      record { statement = 23; name = codes "AccessRoot"; params = (record { name = codes "A"; kind = kind.Stream } ∷ record { name = codes "J"; kind = kind.Preds } ∷ []); alternatives = (record { ranges = []; condition = None; body = (plan.Leaf flavour.AccessHeap ((value.Variable (codes "A") 0) ∷ (v.Union (v.Inside (v.Tables (value.Variable (codes "A") 0))) (value.Variable (codes "J") 1)) ∷ [])) } ∷ record { ranges = []; condition = None; body = (e.Unary flavour.Store (value.NoCols ∷ []) (plan.Leaf flavour.AccessHeap ((value.Variable (codes "A") 0) ∷ (v.Union (v.Inside (v.Tables (value.Variable (codes "A") 0))) (value.Variable (codes "J") 1)) ∷ []))) } ∷ []) }
+      ∷ record { statement = 24; name = codes "JoinRoot"; params = (record { name = codes "A"; kind = kind.Stream } ∷ record { name = codes "B"; kind = kind.Stream } ∷ record { name = codes "J"; kind = kind.Preds } ∷ []); alternatives = (record { ranges = []; condition = None; body = (e.Binary flavour.JoinNl ((v.Between (v.Tables (value.Variable (codes "A") 0)) (v.Tables (value.Variable (codes "B") 1))) ∷ []) (plan.Glue (value.Variable (codes "A") 0) (value.Variable (codes "J") 2)) (plan.Glue (value.Variable (codes "B") 1) (value.Variable (codes "J") 2))) } ∷ []) }
+      ∷ [];
+}
+
+abbrev pub formulas_of_tiny : List FormulaDef
+formulas_of_tiny =
+    record { statement = 1; flavour = flavour.AccessHeap; which = which.Cost; formula = (f.Add (f.Mul (formula.Number 10) (formula.Variable var.Pages)) (f.Mul (formula.Variable var.Cpu) (formula.Variable var.Rows))) }
+    ∷ record { statement = 2; flavour = flavour.AccessHeap; which = which.Rescan; formula = (f.Add (f.Mul (formula.Number 10) (formula.Variable var.Pages)) (f.Mul (formula.Variable var.Cpu) (formula.Variable var.Rows))) }
+    ∷ record { statement = 3; flavour = flavour.Sort; which = which.Cost; formula = (f.Add (formula.Variable var.Cost1) (f.Mul (formula.Number 4) (formula.Variable var.Card1))) }
+    ∷ record { statement = 4; flavour = flavour.Sort; which = which.Rescan; formula = (f.Add (formula.Variable var.Rescan1) (f.Mul (formula.Number 4) (formula.Variable var.Card1))) }
+    ∷ record { statement = 5; flavour = flavour.Store; which = which.Cost; formula = (f.Add (formula.Variable var.Cost1) (f.Mul (formula.Number 2) (formula.Variable var.Card1))) }
+    ∷ record { statement = 6; flavour = flavour.Store; which = which.Rescan; formula = (formula.Variable var.Card1) }
+    ∷ record { statement = 7; flavour = flavour.Ship; which = which.Cost; formula = (f.Add (formula.Variable var.Cost1) (f.Mul (f.Mul (formula.Variable var.Net) (formula.Variable var.Card1)) (formula.Variable var.Width1))) }
+    ∷ record { statement = 8; flavour = flavour.Ship; which = which.Rescan; formula = (f.Add (formula.Variable var.Rescan1) (f.Mul (f.Mul (formula.Variable var.Net) (formula.Variable var.Card1)) (formula.Variable var.Width1))) }
+    ∷ []
+
+abbrev pub tiny : RuleFile
+tiny = record {
+  formulas = formulas_of_tiny;
+  stars =
+      record { statement = 9; name = codes "AccessRoot"; params = (record { name = codes "A"; kind = kind.Stream } ∷ record { name = codes "J"; kind = kind.Preds } ∷ []); alternatives = (record { ranges = []; condition = None; body = (plan.Leaf flavour.AccessHeap ((value.Variable (codes "A") 0) ∷ (value.Variable (codes "J") 1) ∷ [])) } ∷ []) }
+      ∷ record { statement = 10; name = codes "JoinRoot"; params = (record { name = codes "A"; kind = kind.Stream } ∷ record { name = codes "B"; kind = kind.Stream } ∷ record { name = codes "J"; kind = kind.Preds } ∷ []); alternatives = (record { ranges = []; condition = None; body = (plan.Leaf flavour.AccessHeap ((value.Variable (codes "A") 0) ∷ (value.Variable (codes "J") 2) ∷ [])) } ∷ []) }
+      ∷ [];
+}
+
+abbrev pub cycle : RuleFile
+cycle = record {
+  formulas = formulas_of_tiny;
+  stars =
+      record { statement = 9; name = codes "AccessRoot"; params = (record { name = codes "A"; kind = kind.Stream } ∷ record { name = codes "J"; kind = kind.Preds } ∷ []); alternatives = (record { ranges = []; condition = None; body = (plan.Reference (codes "Other") ((value.Variable (codes "A") 0) ∷ (value.Variable (codes "J") 1) ∷ [])) } ∷ []) }
+      ∷ record { statement = 10; name = codes "JoinRoot"; params = (record { name = codes "A"; kind = kind.Stream } ∷ record { name = codes "B"; kind = kind.Stream } ∷ record { name = codes "J"; kind = kind.Preds } ∷ []); alternatives = (record { ranges = []; condition = None; body = (plan.Leaf flavour.AccessHeap ((value.Variable (codes "A") 0) ∷ (value.Variable (codes "J") 2) ∷ [])) } ∷ []) }
+      ∷ record { statement = 11; name = codes "Other"; params = (record { name = codes "A"; kind = kind.Stream } ∷ record { name = codes "J"; kind = kind.Preds } ∷ []); alternatives = (record { ranges = []; condition = None; body = (plan.Reference (codes "AccessRoot") ((value.Variable (codes "A") 0) ∷ (value.Variable (codes "J") 1) ∷ [])) } ∷ []) }
+      ∷ [];
+}
+
+abbrev pub for_all_name : RuleFile
+for_all_name = record {
+  formulas = formulas_of_tiny;
+  stars =
+      record { statement = 9; name = codes "AccessRoot"; params = (record { name = codes "A"; kind = kind.Stream } ∷ record { name = codes "J"; kind = kind.Preds } ∷ []); alternatives = (record { ranges = (record { name = codes "J"; range = range.Sites } ∷ []); condition = None; body = (plan.Leaf flavour.AccessHeap ((value.Variable (codes "A") 0) ∷ value.NoPreds ∷ [])) } ∷ []) }
+      ∷ record { statement = 10; name = codes "JoinRoot"; params = (record { name = codes "A"; kind = kind.Stream } ∷ record { name = codes "B"; kind = kind.Stream } ∷ record { name = codes "J"; kind = kind.Preds } ∷ []); alternatives = (record { ranges = []; condition = None; body = (plan.Leaf flavour.AccessHeap ((value.Variable (codes "A") 0) ∷ (value.Variable (codes "J") 2) ∷ [])) } ∷ []) }
+      ∷ [];
+}
+
+abbrev pub glue_in_access : RuleFile
+glue_in_access = record {
+  formulas = formulas_of_tiny;
+  stars =
+      record { statement = 9; name = codes "AccessRoot"; params = (record { name = codes "A"; kind = kind.Stream } ∷ record { name = codes "J"; kind = kind.Preds } ∷ []); alternatives = (record { ranges = []; condition = None; body = (plan.Glue (value.Variable (codes "A") 0) (value.Variable (codes "J") 1)) } ∷ []) }
+      ∷ record { statement = 10; name = codes "JoinRoot"; params = (record { name = codes "A"; kind = kind.Stream } ∷ record { name = codes "B"; kind = kind.Stream } ∷ record { name = codes "J"; kind = kind.Preds } ∷ []); alternatives = (record { ranges = []; condition = None; body = (plan.Leaf flavour.AccessHeap ((value.Variable (codes "A") 0) ∷ (value.Variable (codes "J") 2) ∷ [])) } ∷ []) }
+      ∷ [];
+}
+
+abbrev pub formulas_of_not_monotone : List FormulaDef
+formulas_of_not_monotone =
+    record { statement = 1; flavour = flavour.AccessHeap; which = which.Cost; formula = (f.Add (f.Mul (formula.Number 10) (formula.Variable var.Pages)) (f.Mul (formula.Variable var.Cpu) (formula.Variable var.Rows))) }
+    ∷ record { statement = 2; flavour = flavour.AccessHeap; which = which.Rescan; formula = (f.Add (f.Mul (formula.Number 10) (formula.Variable var.Pages)) (f.Mul (formula.Variable var.Cpu) (formula.Variable var.Rows))) }
+    ∷ record { statement = 3; flavour = flavour.Sort; which = which.Cost; formula = (f.Add (formula.Number 5) (f.Sub (formula.Variable var.Cost1) (formula.Variable var.Cost1))) }
+    ∷ record { statement = 4; flavour = flavour.Sort; which = which.Rescan; formula = (f.Add (formula.Variable var.Rescan1) (f.Mul (formula.Number 4) (formula.Variable var.Card1))) }
+    ∷ record { statement = 5; flavour = flavour.Store; which = which.Cost; formula = (f.Add (formula.Variable var.Cost1) (f.Mul (formula.Number 2) (formula.Variable var.Card1))) }
+    ∷ record { statement = 6; flavour = flavour.Store; which = which.Rescan; formula = (formula.Variable var.Card1) }
+    ∷ record { statement = 7; flavour = flavour.Ship; which = which.Cost; formula = (f.Add (formula.Variable var.Cost1) (f.Mul (f.Mul (formula.Variable var.Net) (formula.Variable var.Card1)) (formula.Variable var.Width1))) }
+    ∷ record { statement = 8; flavour = flavour.Ship; which = which.Rescan; formula = (f.Add (formula.Variable var.Rescan1) (f.Mul (f.Mul (formula.Variable var.Net) (formula.Variable var.Card1)) (formula.Variable var.Width1))) }
+    ∷ []
+
+abbrev pub not_monotone : RuleFile
+not_monotone = record {
+  formulas = formulas_of_not_monotone;
+  stars =
+      record { statement = 9; name = codes "AccessRoot"; params = (record { name = codes "A"; kind = kind.Stream } ∷ record { name = codes "J"; kind = kind.Preds } ∷ []); alternatives = (record { ranges = []; condition = None; body = (plan.Leaf flavour.AccessHeap ((value.Variable (codes "A") 0) ∷ (value.Variable (codes "J") 1) ∷ [])) } ∷ []) }
+      ∷ record { statement = 10; name = codes "JoinRoot"; params = (record { name = codes "A"; kind = kind.Stream } ∷ record { name = codes "B"; kind = kind.Stream } ∷ record { name = codes "J"; kind = kind.Preds } ∷ []); alternatives = (record { ranges = []; condition = None; body = (plan.Leaf flavour.AccessHeap ((value.Variable (codes "A") 0) ∷ (value.Variable (codes "J") 2) ∷ [])) } ∷ []) }
+      ∷ [];
+}
+
+abbrev pub same_names : RuleFile
+same_names = record {
+  formulas = formulas_of_tiny;
+  stars =
+      record { statement = 9; name = codes "AccessRoot"; params = (record { name = codes "A"; kind = kind.Stream } ∷ record { name = codes "A"; kind = kind.Preds } ∷ []); alternatives = (record { ranges = []; condition = None; body = (plan.Leaf flavour.AccessHeap ((value.Variable (codes "A") 0) ∷ (value.Variable (codes "A") 0) ∷ [])) } ∷ []) }
+      ∷ record { statement = 10; name = codes "JoinRoot"; params = (record { name = codes "A"; kind = kind.Stream } ∷ record { name = codes "B"; kind = kind.Stream } ∷ record { name = codes "J"; kind = kind.Preds } ∷ []); alternatives = (record { ranges = []; condition = None; body = (plan.Leaf flavour.AccessHeap ((value.Variable (codes "A") 0) ∷ (value.Variable (codes "J") 2) ∷ [])) } ∷ []) }
+      ∷ [];
+}
+
+abbrev pub unknown_name : RuleFile
+unknown_name = record {
+  formulas = formulas_of_tiny;
+  stars =
+      record { statement = 9; name = codes "AccessRoot"; params = (record { name = codes "A"; kind = kind.Stream } ∷ record { name = codes "J"; kind = kind.Preds } ∷ []); alternatives = (record { ranges = []; condition = None; body = (plan.Leaf flavour.AccessHeap ((value.Variable (codes "A") 0) ∷ (value.Variable (codes "K") 255) ∷ [])) } ∷ []) }
+      ∷ record { statement = 10; name = codes "JoinRoot"; params = (record { name = codes "A"; kind = kind.Stream } ∷ record { name = codes "B"; kind = kind.Stream } ∷ record { name = codes "J"; kind = kind.Preds } ∷ []); alternatives = (record { ranges = []; condition = None; body = (plan.Leaf flavour.AccessHeap ((value.Variable (codes "A") 0) ∷ (value.Variable (codes "J") 2) ∷ [])) } ∷ []) }
+      ∷ [];
+}
+
+abbrev pub unknown_star : RuleFile
+unknown_star = record {
+  formulas = formulas_of_tiny;
+  stars =
+      record { statement = 9; name = codes "AccessRoot"; params = (record { name = codes "A"; kind = kind.Stream } ∷ record { name = codes "J"; kind = kind.Preds } ∷ []); alternatives = (record { ranges = []; condition = None; body = (plan.Reference (codes "Other") ((value.Variable (codes "A") 0) ∷ (value.Variable (codes "J") 1) ∷ [])) } ∷ []) }
+      ∷ record { statement = 10; name = codes "JoinRoot"; params = (record { name = codes "A"; kind = kind.Stream } ∷ record { name = codes "B"; kind = kind.Stream } ∷ record { name = codes "J"; kind = kind.Preds } ∷ []); alternatives = (record { ranges = []; condition = None; body = (plan.Leaf flavour.AccessHeap ((value.Variable (codes "A") 0) ∷ (value.Variable (codes "J") 2) ∷ [])) } ∷ []) }
+      ∷ [];
+}
+
+abbrev pub wrong_count : RuleFile
+wrong_count = record {
+  formulas = formulas_of_tiny;
+  stars =
+      record { statement = 9; name = codes "AccessRoot"; params = (record { name = codes "A"; kind = kind.Stream } ∷ []); alternatives = (record { ranges = []; condition = None; body = (plan.Leaf flavour.AccessHeap ((value.Variable (codes "A") 0) ∷ value.NoPreds ∷ [])) } ∷ []) }
+      ∷ record { statement = 10; name = codes "JoinRoot"; params = (record { name = codes "A"; kind = kind.Stream } ∷ record { name = codes "B"; kind = kind.Stream } ∷ record { name = codes "J"; kind = kind.Preds } ∷ []); alternatives = (record { ranges = []; condition = None; body = (plan.Leaf flavour.AccessHeap ((value.Variable (codes "A") 0) ∷ (value.Variable (codes "J") 2) ∷ [])) } ∷ []) }
+      ∷ [];
+}
+
+abbrev pub wrong_kind : RuleFile
+wrong_kind = record {
+  formulas = formulas_of_tiny;
+  stars =
+      record { statement = 9; name = codes "AccessRoot"; params = (record { name = codes "A"; kind = kind.Stream } ∷ record { name = codes "J"; kind = kind.Preds } ∷ []); alternatives = (record { ranges = []; condition = None; body = (plan.Leaf flavour.AccessHeap ((value.Variable (codes "A") 0) ∷ (value.Variable (codes "A") 0) ∷ [])) } ∷ []) }
+      ∷ record { statement = 10; name = codes "JoinRoot"; params = (record { name = codes "A"; kind = kind.Stream } ∷ record { name = codes "B"; kind = kind.Stream } ∷ record { name = codes "J"; kind = kind.Preds } ∷ []); alternatives = (record { ranges = []; condition = None; body = (plan.Leaf flavour.AccessHeap ((value.Variable (codes "A") 0) ∷ (value.Variable (codes "J") 2) ∷ [])) } ∷ []) }
+      ∷ [];
+}
