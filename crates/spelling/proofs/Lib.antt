@@ -6,6 +6,7 @@ mod FormulaCanon
 mod Numerals
 mod Statements
 mod CatalogueLaws
+mod CatalogueWriting
 mod QueryLaws
 mod DerivationLaws
 mod TokenForms
@@ -16,6 +17,10 @@ mod ConditionLaws
 mod FormulaLaws
 mod RuleLaws
 mod Thin
+mod Written
+mod LayoutLaws
+mod Formed
+mod RuleWriting
 pub mod Laws
 mod ReadingLaws
 mod Signs
