@@ -1,5 +1,7 @@
 -- The laws that other crates may cite. Each is the clause of a function of the module `theorems`.
 pub use Rattle.spelling.proofs.Statements.{one_list, statements_of_tokens}
+pub use Rattle.spelling.proofs.LayoutLaws.{statements_of_layout}
+pub use Rattle.spelling.proofs.Formed.{formed_statements, layout_again}
 pub use Rattle.spelling.proofs.DerivationLaws.{one_derivation}
 pub use Rattle.spelling.proofs.CatalogueLaws.{one_catalogue_statement, one_catalogue}
 pub use Rattle.spelling.proofs.CatalogueWriting.{written_catalogue, written_catalogue_spells}

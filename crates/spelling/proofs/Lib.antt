@@ -17,5 +17,8 @@ mod ConditionLaws
 mod FormulaLaws
 mod RuleLaws
 mod Thin
+mod Written
+mod LayoutLaws
+mod Formed
 mod RuleWriting
 pub mod Laws

@@ -4,7 +4,8 @@ ghost use Rattle.std.specs.Prelude.{◌≡◌, ℕ, List, [], ◌∷◌, map, tr
 ghost use Rattle.sb_text.specs.declared.token.Token.{Token};
 ghost use Rattle.sb_text.specs.Tokens.{lexed};
 ghost use Rattle.sb_text.specs.Statements.{parts};
-ghost use Rattle.spelling.specs.Lexemes.{Lexeme, IsStatements, lexemes_of, HasItem};
+ghost use Rattle.spelling.specs.Lexemes.{Lexeme, IsStatements, lexemes_of, HasItem, Every};
+ghost use Rattle.spelling.specs.Layout.{layout, IsLexeme};
 ghost use Rattle.spelling.specs.Derivations.{SpellsDerivation};
 ghost use Rattle.spelling.specs.Catalogues.{CatalogueStatement, catalogue_of, catalogue_statements, Site, Table, TablePart, table_from, catalogue_lexemes, SpellsCatalogueStatement, SpellsCatalogue};
 ghost use Rattle.spelling.specs.Queries.{QueryStatement, only_column, query_lexemes, IsFree, SpellsQueryStatement, SpellsQuery};
@@ -31,6 +32,17 @@ pub fn one_list_of_statements()
 /// The statements of a text whose tokens are known.
 pub fn statements_come_from_tokens()
     ensures { (text : List ℕ) (tokens : List Token) (list : List (List Token)) → lexed text ≡ (tokens, None) → parts tokens ≡ map (λ ts. (ts, true)) list → IsStatements text (map (lexemes_of text) list) }
+{}
+
+/// The layout of statements is read as these statements, thus also the layout of those of any text.
+pub fn layout_is_read_back()
+    ensures any { (statements : List (List Lexeme)) → Every (Every IsLexeme) statements → IsStatements (layout statements) statements }
+    ensures again { (text : List ℕ) (statements : List (List Lexeme)) → IsStatements text statements → IsStatements (layout statements) statements }
+{}
+
+/// The statements of any text are of lexemes that can be laid out.
+pub fn statements_can_be_laid_out()
+    ensures { (text : List ℕ) (statements : List (List Lexeme)) → IsStatements text statements → Every (Every IsLexeme) statements }
 {}
 
 /// One text spells at most one derivation.
