@@ -37,7 +37,7 @@ forms_of_query = record {
   catalogue = catalogue.employees;
   quants = (record { name = codes "emp"; table = 0 } ∷ record { name = codes "e"; table = 0 } ∷ []);
   select = (record { quant = record { 0 = 1 }; column = 0 } ∷ record { quant = record { 0 = 0 }; column = 1 } ∷ []);
-  preds = (record { left = record { quant = record { 0 = 1 }; column = 0 }; cmp = cmp.Ne; right = operand.Constant (constant.Int (pos 3)) } ∷ record { left = record { quant = record { 0 = 1 }; column = 0 }; cmp = cmp.Lt; right = operand.Column (record { quant = record { 0 = 0 }; column = 0 }) } ∷ record { left = record { quant = record { 0 = 0 }; column = 2 }; cmp = cmp.Eq; right = operand.Constant (constant.Text (codes "O''Hara")) } ∷ record { left = record { quant = record { 0 = 0 }; column = 0 }; cmp = cmp.Le; right = operand.Constant (constant.Int (pos 007)) } ∷ record { left = record { quant = record { 0 = 1 }; column = 1 }; cmp = cmp.Gt; right = operand.Constant (constant.Int (neg_ℤ (pos 5))) } ∷ record { left = record { quant = record { 0 = 1 }; column = 1 }; cmp = cmp.Ge; right = operand.Constant (constant.Int (pos 0)) } ∷ []);
+  preds = (record { left = record { quant = record { 0 = 1 }; column = 0 }; cmp = cmp.Ne; right = operand.Constant (constant.Int (pos 3)) } ∷ record { left = record { quant = record { 0 = 1 }; column = 0 }; cmp = cmp.Lt; right = operand.Column (record { quant = record { 0 = 0 }; column = 0 }) } ∷ record { left = record { quant = record { 0 = 0 }; column = 2 }; cmp = cmp.Eq; right = operand.Constant (constant.Text (codes "O'Hara")) } ∷ record { left = record { quant = record { 0 = 0 }; column = 0 }; cmp = cmp.Le; right = operand.Constant (constant.Int (pos 007)) } ∷ record { left = record { quant = record { 0 = 1 }; column = 1 }; cmp = cmp.Gt; right = operand.Constant (constant.Int (neg_ℤ (pos 5))) } ∷ record { left = record { quant = record { 0 = 1 }; column = 1 }; cmp = cmp.Ge; right = operand.Constant (constant.Int (pos 0)) } ∷ []);
   order = (record { quant = record { 0 = 1 }; column = 0 } ∷ record { quant = record { 0 = 1 }; column = 1 } ∷ []);
   site = Some (record { 0 = 0 });
 }
