@@ -20,5 +20,7 @@ mod Thin
 mod Written
 mod LayoutLaws
 mod Formed
+mod Forming
+mod DerivationWriting
 mod RuleWriting
 pub mod Laws
