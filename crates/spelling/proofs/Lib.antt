@@ -20,6 +20,8 @@ mod Thin
 mod Written
 mod LayoutLaws
 mod Formed
+mod Forming
+mod DerivationWriting
 mod RuleWriting
 pub mod Laws
 mod ReadingLaws
