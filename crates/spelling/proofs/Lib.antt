@@ -21,6 +21,7 @@ mod Written
 mod LayoutLaws
 mod Formed
 mod Forming
+mod FormulaFitting
 mod CatalogueCanonical
 mod DerivationWriting
 mod RuleWriting
