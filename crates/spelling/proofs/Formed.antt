@@ -1,18 +1,14 @@
 -- The statements of any text are of lexemes that can be laid out.
 use Rattle.std.proofs.Common.{◌≡◌, ◌-◌, ◌≤◌, ◌<◌, ◌^◌, ℕ, true, false, List, [], ◌∷◌, length, take, drop, map, Some, refl, ap, sym, ◌∙◌, arith, suc, zero, subst}
 use Rattle.std.specs.Prelude.{codes}
-use Rattle.std.specs.Char.{digit_value}
 use Rattle.std.specs.List.{All, AllPass, slice_get}
-use Rattle.std.specs.Str.Parse.{AllDigits, digits_value}
-use Rattle.std.proofs.lemmas.Str.{digit_value_digit}
+use Rattle.std.specs.Str.Parse.{digits_value}
 use Rattle.std.proofs.lemmas.Int.Digits.{digits_value-lt}
 use Rattle.std.proofs.Math.Nat.{pow-le-pow_right}
-use Rattle.std.proofs.lemmas.Bool.Decides.{nat_tests}
 use Rattle.std.proofs.lemmas.List.Elements.{All-head, All-tail}
 use Rattle.sb_text.specs.declared.token.Token.{Token}
 use Rattle.sb_text.specs.declared.token.TokenKind.{TokenKind}
 use Rattle.sb_text.specs.declared.token.TokenKind.TheVariants as kind
-use Rattle.sb_text.specs.Bytes.{is_digit}
 use Rattle.sb_text.specs.Forms.{IsNumber, IsToken}
 use Rattle.sb_text.specs.Tokens.{lexed, text_of}
 use Rattle.sb_text.specs.Reading.{IsTokenOf}
@@ -20,18 +16,8 @@ use Rattle.sb_text.specs.Statements.{Part, tokens_of, parts, is_inside}
 use Rattle.sb_text.proofs.Laws.{tokens-parts, inside-parts}
 use Rattle.spelling.specs.Lexemes.{Lexeme, said, lexeme_of, lexemes_of, MaybeEnded, ended, statements_in, IsStatements, Every}
 use Rattle.spelling.specs.Layout.{layout, IsLexeme}
+use Rattle.spelling.proofs.TokenForms.{all_digits}
 use Rattle.spelling.proofs.LayoutLaws.{statements_of_layout}
-
-digit_below : (b : ℕ) → is_digit b ≡ true → digit_value b < 10
-digit_below b e =
-    let low : 48 ≤ b = grind (arith, nat_tests) in
-    let high : b ≤ 57 = grind (arith, nat_tests) in
-    omega (arith, digit_value_digit b (low, high))
-
-all_digits : (ds : List ℕ) → AllPass is_digit ds → AllDigits 10 ds
-all_digits [] all = tt
-all_digits (b ∷ ds) all =
-    (digit_below b (All-head (λ x. is_digit x ≡ true) b ds all), all_digits ds (All-tail (λ x. is_digit x ≡ true) b ds all))
 
 few_digits : (k : ℕ) → k ≤ 19 → 10 ^ k ≤ 10 ^ 19
 few_digits k few = pow-le-pow_right (omega arith) few

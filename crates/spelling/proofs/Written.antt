@@ -1,5 +1,5 @@
 -- A lexeme as it is written is a token that says it.
-use Rattle.std.proofs.Common.{◌≡◌, ◌≤◌, ◌<◌, ◌^◌, ℕ, Bool, true, false, ◌==◌, List, [], ◌∷◌, ◌++◌, length, get_or, map, refl, ap, ◌∙◌, arith}
+use Rattle.std.proofs.Common.{◌≡◌, ◌≤◌, ◌<◌, ◌^◌, ℕ, Bool, true, false, ◌==◌, List, [], ◌∷◌, ◌++◌, length, get_or, map, refl, ap, arith}
 use Rattle.std.specs.Prelude.{codes, decimal}
 use Rattle.std.specs.List.{AllPass}
 use Rattle.std.specs.Str.Parse.{AllDigits}
@@ -11,11 +11,12 @@ use Rattle.std.proofs.lemmas.List.Elements.{All-nil, All-cons, All-map, All-appe
 use Rattle.sb_text.specs.declared.token.TokenKind.{TokenKind}
 use Rattle.sb_text.specs.declared.token.TokenKind.TheVariants as kind
 use Rattle.sb_text.specs.Bytes.{begins_word, is_digit, is_in_word, is_quote, symbol_bytes}
-use Rattle.sb_text.specs.Forms.{IsWord, IsNumber, IsSymbol, NotFirst, NoDouble, doubled, quoted, symbols}
+use Rattle.sb_text.specs.Forms.{IsWord, IsNumber, IsSymbol, NotFirst, NoDouble, quoted, symbols}
 use Rattle.sb_text.specs.Front.{IsLongest}
 use Rattle.sb_text.proofs.Laws.{longest-word, longest-number, longest-text, longest-symbol}
-use Rattle.spelling.specs.Lexemes.{Lexeme, Word, Number, Text, Symbol, said, undoubled}
+use Rattle.spelling.specs.Lexemes.{Lexeme, Word, Number, Text, Symbol, said}
 use Rattle.spelling.specs.Layout.{written, IsLexeme}
+use Rattle.spelling.proofs.Undoubling.{undoubled-doubled}
 
 abbrev pub kind_of : Lexeme → TokenKind
 kind_of (Word bytes) = kind.Word
@@ -85,30 +86,6 @@ no_semicolon_digits (b ∷ rest) all = no_digit b (all 0 0 (omega arith)) where
   no_digit b digit = grind (arith, nat_tests)
 
 -- ---- texts
-
-undoubled-pair : (b c : ℕ) (rest : List ℕ) → is_quote b ≡ true → undoubled (b ∷ c ∷ rest) ≡ 39 ∷ undoubled rest
-undoubled-pair b c rest e = rw e refl
-
-undoubled-other : (b c : ℕ) (rest : List ℕ) → is_quote b ≡ false → undoubled (b ∷ c ∷ rest) ≡ b ∷ undoubled (c ∷ rest)
-undoubled-other b c rest e = rw e refl
-
-behind_other : (b y : ℕ) (ys : List ℕ) → is_quote b ≡ false → undoubled (b ∷ (ys ++ y ∷ [])) ≡ b ∷ undoubled (ys ++ y ∷ [])
-behind_other b y [] e = undoubled-other b y [] e
-behind_other b y (c ∷ ys) e = undoubled-other b c (ys ++ y ∷ []) e
-
-doubled-quote : (b : ℕ) (inner : List ℕ) → is_quote b ≡ true → doubled (b ∷ inner) ≡ b ∷ b ∷ doubled inner
-doubled-quote b inner e = rw e refl
-
-doubled-other : (b : ℕ) (inner : List ℕ) → is_quote b ≡ false → doubled (b ∷ inner) ≡ b ∷ doubled inner
-doubled-other b inner e = rw e refl
-
-pub undoubled-doubled : (inner : List ℕ) → undoubled (doubled inner ++ 39 ∷ []) ≡ inner
-undoubled-doubled [] = refl
-undoubled-doubled (b ∷ inner) = by_quote (is_quote b) refl (undoubled-doubled inner) where
-  by_quote : (q : Bool) → is_quote b ≡ q → undoubled (doubled inner ++ 39 ∷ []) ≡ inner → undoubled (doubled (b ∷ inner) ++ 39 ∷ []) ≡ b ∷ inner
-  by_quote true e later =
-      rw (doubled-quote b inner e) (undoubled-pair b b (doubled inner ++ 39 ∷ []) e ∙ rw (later, eqb-true b 39 e) refl)
-  by_quote false e later = rw (doubled-other b inner e) (behind_other b 39 (doubled inner) e ∙ rw later refl)
 
 shows_text : (inner : List ℕ) → Shows (Text inner) (quoted inner)
 shows_text inner = record {
