@@ -1,5 +1,5 @@
 -- The canonical text of a well-formed catalogue spells it.
-use Rattle.std.proofs.Common.{◌≡◌, ℕ, zero, suc, ◌^◌, ◌<◌, Bool, true, false, ◌&&◌, ◌||◌, nat_lt, nat_le, List, [], ◌∷◌, ◌++◌, map, length, Option, Some, None, slice_get, codes, refl, sym, ap, ◌∙◌, subst, arith, leb-true, ltb-true}
+use Rattle.std.proofs.Common.{◌≡◌, ℕ, zero, suc, ◌^◌, ◌<◌, Bool, true, false, ◌&&◌, ◌||◌, nat_lt, List, [], ◌∷◌, ◌++◌, map, length, codes, refl, sym, ap, ◌∙◌, subst, arith, leb-true, ltb-true}
 use Rattle.std.proofs.lemmas.Bool.{and_parts}
 use Rattle.std.proofs.lemmas.List.{length-map}
 use Rattle.std.specs.List.{list_all}
@@ -17,9 +17,8 @@ use Rattle.star_model.specs.declared.catalogue.IndexDef.{IndexDef}
 use Rattle.star_model.specs.declared.catalogue.ColType.{ColType}
 use Rattle.star_model.specs.declared.catalogue.ColType.TheVariants as type
 use Rattle.spelling.specs.Lexemes.{Lexeme, Word, Number, comma, joined_by, bracketed, Every}
-use Rattle.spelling.specs.Layout.{IsLexeme}
-use Rattle.spelling.specs.Catalogues.{CatalogueStatement, Site, type_word, column_lexemes, name_lexemes, catalogue_lexemes, name_at, site_names, table_names, column_names, column_names_at, table_statement, index_statement, catalogue_statements, canonical, SpellsCatalogue}
-use Rattle.spelling.proofs.Forming.{Formed, given_word, given_symbol, a_comma, both, formed_series, formed_bracketed}
+use Rattle.spelling.specs.Catalogues.{Site, type_word, column_lexemes, name_lexemes, catalogue_lexemes, name_at, site_names, table_names, column_names, column_names_at, table_statement, index_statement, catalogue_statements, canonical, SpellsCatalogue}
+use Rattle.spelling.proofs.Forming.{Formed, given_word, a_comma, both, formed_series, formed_bracketed}
 use Rattle.spelling.proofs.CatalogueWriting.{written_catalogue_spells, each_at}
 use Rattle.spelling.proofs.LayoutLaws.{statements_of_layout}
 
@@ -90,11 +89,38 @@ column_words (d ∷ ds) e = let p = and_parts _ _ e in (a_name d.name (and_parts
 formed_table : (c : Catalogue) (t : TableDef) → Every IsWord (site_names c) → WellFormedTable (length c.sites) t → Formed (catalogue_lexemes (table_statement c t))
 formed_table c t sites p =
     let numbers = and_parts _ _ p.numbers in
-    let less : t.site.0 < length (site_names c) = omega (arith, p.site, length-map c.sites (λ (s : SiteDef). s.name)) in
-    (given_word (codes "table") refl, (a_name t.name p.name, (given_word (codes "at") refl, (name_is (site_names c) t.site.0 less sites,
-      (given_word (codes "rows") refl, (a_number t.rows numbers.0, (given_word (codes "pages") refl, (a_number t.pages numbers.1, (given_word (codes "file") refl, (tt,
-        formed_bracketed (joined_by comma (map column_lexemes t.columns))
-        (formed_series column_lexemes (λ d. well.is_column d ≡ true) comma a_comma formed_column t.columns (every_of well.is_column t.columns p.columns))))))))))))
+    let less : t.site.0 < length (site_names c) = omega (arith, p.site, length-map c.sites (λ (s : SiteDef). s.name)) in (
+      given_word (codes "table") refl,
+      (
+        a_name t.name p.name,
+        (
+          given_word (codes "at") refl,
+          (
+            name_is (site_names c) t.site.0 less sites,
+            (
+              given_word (codes "rows") refl,
+              (
+                a_number t.rows numbers.0,
+                (
+                  given_word (codes "pages") refl,
+                  (
+                    a_number t.pages numbers.1,
+                    (
+                      given_word (codes "file") refl,
+                      (
+                        tt,
+                        formed_bracketed (joined_by comma (map column_lexemes t.columns))
+                            (formed_series column_lexemes (λ d. well.is_column d ≡ true) comma a_comma formed_column t.columns (every_of well.is_column t.columns p.columns)),
+                      ),
+                    ),
+                  ),
+                ),
+              ),
+            ),
+          ),
+        ),
+      ),
+    )
 
 columns_named : (names : List (List ℕ)) (ns : List ℕ) → Every IsWord names → list_all (λ n. nat_lt n (length names)) ns ≡ true → Every IsWord (map (name_at names) ns)
 columns_named names [] h e = tt
@@ -107,11 +133,21 @@ formed_index c i tables p =
     let count : columns_in c.tables i.table ≡ length (column_names found.0) = ap (λ o. option_map_or (λ (t : TableDef). length t.columns) o 0) found.1 ∙ sym (length-map found.0.columns (λ (d : ColumnDef). d.name)) in
     let names : column_names_at c i.table ≡ column_names found.0 = ap (λ o. option_map_or column_names o []) found.1 in
     let columns = columns_named (column_names found.0) i.columns (column_words found.0.columns found.2.columns) (subst (λ m. list_all (λ n. nat_lt n m) i.columns ≡ true) count p.columns) in
-    let columns' = subst (λ l. Every IsWord (map (name_at l) i.columns)) (sym names) columns in
-    (given_word (codes "index") refl, (a_name i.name p.name, (given_word (codes "on") refl, (name_is (table_names c) i.table less (table_words (length c.sites) c.tables tables),
-      both (bracketed (joined_by comma (map name_lexemes (map (name_at (column_names_at c i.table)) i.columns)))) (Word (codes "pages") ∷ Number i.pages ∷ [])
-      (formed_bracketed (joined_by comma (map name_lexemes (map (name_at (column_names_at c i.table)) i.columns))) (formed_series name_lexemes IsWord comma a_comma (λ x w. (w, tt)) (map (name_at (column_names_at c i.table)) i.columns) columns'))
-      (given_word (codes "pages") refl, (a_number i.pages p.pages, tt))))))
+    let columns' = subst (λ l. Every IsWord (map (name_at l) i.columns)) (sym names) columns in (
+      given_word (codes "index") refl,
+      (
+        a_name i.name p.name,
+        (
+          given_word (codes "on") refl,
+          (
+            name_is (table_names c) i.table less (table_words (length c.sites) c.tables tables),
+            both (bracketed (joined_by comma (map name_lexemes (map (name_at (column_names_at c i.table)) i.columns)))) (Word (codes "pages") ∷ Number i.pages ∷ [])
+                (formed_bracketed (joined_by comma (map name_lexemes (map (name_at (column_names_at c i.table)) i.columns))) (formed_series name_lexemes IsWord comma a_comma (λ x w. (w, tt)) (map (name_at (column_names_at c i.table)) i.columns) columns'))
+                (given_word (codes "pages") refl, (a_number i.pages p.pages, tt)),
+          ),
+        ),
+      ),
+    )
 
 -- ---- the whole
 
@@ -139,9 +175,9 @@ formed_catalogue : (c : Catalogue) → WellFormedCatalogue c → Every Formed (m
 formed_catalogue c h =
     subst (Every Formed)
     (sym (map_append catalogue_lexemes (map Site c.sites) (map (table_statement c) c.tables ++ map (index_statement c) c.indexes)
-      ∙ ap (λ l. map catalogue_lexemes (map Site c.sites) ++ l) (map_append catalogue_lexemes (map (table_statement c) c.tables) (map (index_statement c) c.indexes))))
+    ∙ ap (λ l. map catalogue_lexemes (map Site c.sites) ++ l) (map_append catalogue_lexemes (map (table_statement c) c.tables) (map (index_statement c) c.indexes))))
     (both_lists (map catalogue_lexemes (map Site c.sites)) _ (all_sites c.sites h.sites)
-      (both_lists (map catalogue_lexemes (map (table_statement c) c.tables)) _ (all_tables c c.tables (site_words c.sites h.sites) h.tables) (all_indexes c c.indexes h.tables h.indexes)))
+    (both_lists (map catalogue_lexemes (map (table_statement c) c.tables)) _ (all_tables c c.tables (site_words c.sites h.sites) h.tables) (all_indexes c c.indexes h.tables h.indexes)))
 
 pub canonical_catalogue : (c : Catalogue) → WellFormedCatalogue c → SpellsCatalogue (canonical c) c
 canonical_catalogue c h = written_catalogue_spells c h (canonical c) (statements_of_layout (map catalogue_lexemes (catalogue_statements c)) (formed_catalogue c h))

@@ -1,16 +1,15 @@
 -- What is written of a tree is made of lexemes that can be laid out.
-use Rattle.std.proofs.Common.{◌≡◌, ℕ, zero, suc, ◌+◌, ◌≤◌, ◌<◌, ◌^◌, Bool, true, false, ◌&&◌, ◌||◌, ◌==◌, nat_eq, nat_le, List, [], ◌∷◌, ◌++◌, map, length, Option, Some, None, codes, refl, sym, ap, ◌∙◌, subst, arith, eqb-true, leb-true}
+use Rattle.std.proofs.Common.{◌≡◌, ℕ, Bool, true, false, ◌&&◌, List, [], ◌∷◌, ◌++◌, map, codes, refl, sym, ap, ◌∙◌}
 use Rattle.std.proofs.lemmas.Bool.{and_parts}
 use Rattle.std.proofs.lemmas.List.Sums.{AllPass-from_list_all}
 use Rattle.std.proofs.lemmas.Map.Views.{Contains-from_any}
 use Rattle.std.specs.List.{list_all, list_any}
 use Rattle.std.specs.Cmp.Lexicographic.{same_text}
 use Rattle.sb_text.specs.Bytes.{begins_word, is_in_word}
-use Rattle.sb_text.specs.Forms.{IsWord, IsSymbol, symbols}
+use Rattle.sb_text.specs.Forms.{IsWord, symbols}
 use Rattle.star_model.specs.Vectors.{same_numbers}
-use Rattle.spelling.specs.Lexemes.{Lexeme, Word, Number, Text, Symbol, comma, left_bracket, right_bracket, joined_by, bracketed, Every}
+use Rattle.spelling.specs.Lexemes.{Lexeme, Symbol, comma, left_bracket, right_bracket, joined_by, bracketed, Every}
 use Rattle.spelling.specs.Layout.{IsLexeme}
-use Rattle.spelling.proofs.Statements.{same_self}
 
 -- ---- words and symbols that are given byte by byte
 

@@ -7,6 +7,7 @@ pub use Rattle.spelling.proofs.CatalogueLaws.{one_catalogue_statement, one_catal
 pub use Rattle.spelling.proofs.CatalogueWriting.{written_catalogue, written_catalogue_spells}
 pub use Rattle.spelling.proofs.CatalogueCanonical.{canonical_catalogue}
 pub use Rattle.spelling.proofs.DerivationWriting.{written_derivation, derivation_again}
+pub use Rattle.spelling.proofs.Commented.{layout_behind_comment, commented_derivation}
 pub use Rattle.spelling.proofs.QueryLaws.{one_query_statement, one_query}
 pub use Rattle.spelling.proofs.FormulaLaws.{one_formula, canonical_formula}
 pub use Rattle.spelling.proofs.Thin.{canonical_formula_def, tiny_is_spelled, one_table, one_column}

@@ -24,5 +24,6 @@ mod Forming
 mod FormulaFitting
 mod CatalogueCanonical
 mod DerivationWriting
+mod Commented
 mod RuleWriting
 pub mod Laws

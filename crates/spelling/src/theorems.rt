@@ -2,10 +2,12 @@
 
 ghost use Rattle.std.specs.Prelude.{◌≡◌, ℕ, List, [], ◌∷◌, map, true, None, Some};
 ghost use Rattle.sb_text.specs.declared.token.Token.{Token};
+ghost use Rattle.std.specs.List.{AllPass};
+ghost use Rattle.sb_text.specs.Front.{in_comment};
 ghost use Rattle.sb_text.specs.Tokens.{lexed};
 ghost use Rattle.sb_text.specs.Statements.{parts};
 ghost use Rattle.spelling.specs.Lexemes.{Lexeme, IsStatements, lexemes_of, HasItem, Every};
-ghost use Rattle.spelling.specs.Layout.{layout, IsLexeme};
+ghost use Rattle.spelling.specs.Layout.{layout, commented, IsLexeme};
 ghost use Rattle.spelling.specs.Derivations as derivation;
 ghost use Rattle.spelling.specs.Derivations.{steps, NamesWord, IsWritable, SpellsDerivation};
 ghost use Rattle.spelling.specs.Catalogues as catalogue;
@@ -101,6 +103,12 @@ pub fn canonical_texts_spell()
     ensures spelled_derivation { (text : List ℕ) (tree : Deriv) → SpellsDerivation text tree → SpellsDerivation (derivation.canonical tree) tree }
     ensures catalogue { (c : Catalogue) → WellFormedCatalogue c → SpellsCatalogue (catalogue.canonical c) c }
     ensures rules { (text : List ℕ) (rules : RuleFile) → SpellsRules text rules → SpellsRules (rule_file.canonical rules) rules }
+{}
+
+/// A comment on a line of its own before a canonical text makes no difference.
+pub fn comments_make_no_difference()
+    ensures any { (line : List ℕ) (statements : List (List Lexeme)) → AllPass in_comment line → Every (Every IsLexeme) statements → IsStatements (commented line (layout statements)) statements }
+    ensures derivation { (line : List ℕ) (tree : Deriv) → AllPass in_comment line → IsWritable tree → Every NamesWord (steps tree) → SpellsDerivation (commented line (derivation.canonical tree)) tree }
 {}
 
 /// What the smallest texts spell: the smallest rule file that is accepted, one site with one table at it, and a query for the
