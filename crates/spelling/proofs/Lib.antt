@@ -27,3 +27,6 @@ mod DerivationWriting
 mod Commented
 mod RuleWriting
 pub mod Laws
+mod ReadingLaws
+mod Signs
+mod WritingLaws

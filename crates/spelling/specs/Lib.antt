@@ -14,3 +14,4 @@ pub mod Cursors
 pub mod Values
 pub mod Rules
 pub mod Tiny
+pub mod Writing

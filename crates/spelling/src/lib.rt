@@ -3,7 +3,11 @@
 #![tactic(auto)]
 
 mod cursor;
+mod ending;
 pub mod theorems;
 pub mod words;
+mod writer;
 
-pub use cursor::{Cursor, same_lexeme};
+pub use cursor::{Cursor, same_lexeme, text_bytes};
+pub use ending::Ending;
+pub use writer::Writer;

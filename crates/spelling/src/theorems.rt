@@ -1,13 +1,15 @@
 // The laws of the definitions, each the clause of a function that does nothing.
 
-ghost use Rattle.std.specs.Prelude.{◌≡◌, ℕ, List, [], ◌∷◌, map, true, None, Some};
+ghost use Rattle.std.specs.Prelude.{◌≡◌, ◌↔◌, ℕ, List, [], ◌∷◌, ◌++◌, map, true, None, Some};
 ghost use Rattle.sb_text.specs.declared.token.Token.{Token};
 ghost use Rattle.std.specs.List.{AllPass};
 ghost use Rattle.sb_text.specs.Front.{in_comment};
 ghost use Rattle.sb_text.specs.Tokens.{lexed};
 ghost use Rattle.sb_text.specs.Statements.{parts};
-ghost use Rattle.spelling.specs.Lexemes.{Lexeme, IsStatements, lexemes_of, HasItem, Every};
-ghost use Rattle.spelling.specs.Layout.{layout, commented, IsLexeme};
+ghost use Rattle.spelling.specs.Lexemes.{Lexeme, Word, Number, Text, Symbol, IsStatements, lexemes_of, HasItem, Every};
+ghost use Rattle.spelling.specs.Layout.{line, layout, commented, IsLexeme};
+ghost use Rattle.spelling.specs.Reading.{the_word, the_symbol, a_word, a_number, a_text};
+ghost use Rattle.spelling.specs.Writing.{Written, whole, put, puts, ended, lines};
 ghost use Rattle.spelling.specs.Derivations as derivation;
 ghost use Rattle.spelling.specs.Derivations.{steps, NamesWord, IsWritable, SpellsDerivation};
 ghost use Rattle.spelling.specs.Catalogues as catalogue;
@@ -17,6 +19,7 @@ ghost use Rattle.spelling.specs.Queries.{QueryStatement, only_column, query_lexe
 ghost use Rattle.spelling.specs.Formulas.{SpellsFormula, formula_lexemes};
 ghost use Rattle.spelling.specs.Rules.{SpellsStar, SpellsFormulaDef, formula_def_lexemes, rule_lexemes, SpellsRules};
 ghost use Rattle.spelling.specs.Tiny.{tiny_lexemes, tiny_rules};
+ghost use Rattle.star_model.specs.Vectors.{same_numbers};
 ghost use Rattle.star_model.specs.WellFormed.{WellFormedCatalogue};
 ghost use Rattle.star_model.specs.declared.catalogue.Catalogue.{Catalogue};
 ghost use Rattle.star_model.specs.declared.catalogue.SiteDef.{SiteDef};
@@ -37,6 +40,22 @@ pub fn one_list_of_statements()
 /// The statements of a text whose tokens are known.
 pub fn statements_come_from_tokens()
     ensures { (text : List ℕ) (tokens : List Token) (list : List (List Token)) → lexed text ≡ (tokens, None) → parts tokens ≡ map (λ ts. (ts, true)) list → IsStatements text (map (lexemes_of text) list) }
+{}
+
+/// Statements that are written one after the other, lexeme by lexeme, stand in canonical layout.
+pub fn what_is_written_is_in_layout()
+    ensures statement { (text : List ℕ) (statement : List Lexeme) → ended (puts (whole text) statement) ≡ whole (text ++ line statement) }
+    ensures text { (text : List ℕ) (statements : List (List Lexeme)) → lines (whole text) statements ≡ whole (text ++ layout statements) }
+{}
+
+/// What it comes to that lexemes and statements are written one after the other.
+pub fn writing_goes_on()
+    ensures none { (w : Written) → puts w [] ≡ w }
+    ensures more { (w : Written) (x : Lexeme) (xs : List Lexeme) → puts w (x ∷ xs) ≡ puts (put w x) xs }
+    ensures append { (w : Written) (xs ys : List Lexeme) → puts w (xs ++ ys) ≡ puts (puts w xs) ys }
+    ensures no_lines { (w : Written) → lines w [] ≡ w }
+    ensures more_lines { (w : Written) (statement : List Lexeme) (later : List (List Lexeme)) → lines w (statement ∷ later) ≡ lines (ended (puts w statement)) later }
+    ensures append_lines { (w : Written) (early later : List (List Lexeme)) → lines w (early ++ later) ≡ lines (lines w early) later }
 {}
 
 /// The layout of statements is read as these statements, thus also the layout of those of any text.
@@ -120,4 +139,18 @@ pub fn smallest_texts_spell()
     ensures query { (catalogue : Catalogue) (text : List ℕ) (t : TableDef) (c : ColumnDef) → catalogue.tables ≡ t ∷ [] → t.columns ≡ c ∷ [] → IsFree t.name
         → IsStatements text (query_lexemes (only_column t.name c.name) ∷ [])
         → SpellsQuery catalogue text (record { catalogue = catalogue; quants = record { name = t.name; table = 0 } ∷ []; select = record { quant = record { 0 = 0 }; column = 0 } ∷ []; preds = []; order = []; site = None }) }
+{}
+
+/// What is read from the front of a list of lexemes stood there, and nothing else is read.
+pub fn readers_read()
+    ensures the_word { (wanted : List ℕ) (lexemes rest : List Lexeme) → (the_word wanted lexemes ≡ Some (tt, rest)) ↔ (lexemes ≡ Word wanted ∷ rest) }
+    ensures the_symbol { (wanted : List ℕ) (lexemes rest : List Lexeme) → (the_symbol wanted lexemes ≡ Some (tt, rest)) ↔ (lexemes ≡ Symbol wanted ∷ rest) }
+    ensures a_word { (lexemes rest : List Lexeme) (bytes : List ℕ) → (a_word lexemes ≡ Some (bytes, rest)) ↔ (lexemes ≡ Word bytes ∷ rest) }
+    ensures a_number { (lexemes rest : List Lexeme) (n : ℕ) → (a_number lexemes ≡ Some (n, rest)) ↔ (lexemes ≡ Number n ∷ rest) }
+    ensures a_text { (lexemes rest : List Lexeme) (bytes : List ℕ) → (a_text lexemes ≡ Some (bytes, rest)) ↔ (lexemes ≡ Text bytes ∷ rest) }
+{}
+
+/// The test of bytes decides that they are the same.
+pub fn same_numbers_are_same()
+    ensures { (a b : List ℕ) → (same_numbers a b ≡ true) ↔ (a ≡ b) }
 {}
