@@ -88,7 +88,7 @@ column_words (d ∷ ds) e = let p = and_parts _ _ e in (a_name d.name (and_parts
 
 formed_table : (c : Catalogue) (t : TableDef) → Every IsWord (site_names c) → WellFormedTable (length c.sites) t → Formed (catalogue_lexemes (table_statement c t))
 formed_table c t sites p =
-    let numbers = and_parts _ _ p.numbers in
+    let numbers : (well.is_number t.rows ≡ true) × (well.is_number t.pages ≡ true) = and_parts _ _ p.numbers in
     let less : t.site.0 < length (site_names c) = omega (arith, p.site, length-map c.sites (λ (s : SiteDef). s.name)) in (
       given_word (codes "table") refl,
       (

@@ -16,7 +16,7 @@ mod ValueReading
 mod ConditionLaws
 mod FormulaLaws
 mod RuleLaws
-mod Thin
+mod SmallestTexts
 mod Written
 mod LayoutLaws
 mod Formed

@@ -10,7 +10,7 @@ use Rattle.spelling.proofs.Forming.{Formed, every_both}
 use Rattle.spelling.proofs.FormulaFitting.{formed_formula}
 use Rattle.spelling.proofs.LayoutLaws.{statements_of_layout}
 use Rattle.spelling.proofs.Formed.{formed_statements}
-use Rattle.spelling.proofs.Thin.{canonical_formula_def}
+use Rattle.spelling.proofs.SmallestTexts.{canonical_formula_def}
 
 abbrev From : ℕ → Definition → Type 0
 From n x = n ≤ number_of x
