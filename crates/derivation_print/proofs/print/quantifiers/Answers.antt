@@ -1,0 +1,27 @@
+use Rattle.std.proofs.Common.{◌≡◌, ◌∙◌, subst, OnOk}
+use Rattle.spelling.specs.Lexemes.{right_brace}
+use Rattle.spelling.specs.Derivations.{set_lexemes}
+use Rattle.spelling.specs.Writing.{put, puts}
+use Rattle.derivation_print.proofs.Sets.{left_first, left_member, left_other, left_none}
+use Rattle.derivation_print.proofs.print.quantifiers.Goals as goal
+use Rattle.derivation_print.proofs.print.quantifiers.Goals.{then-has+in_ok-member, else-has}
+
+pub loop-n-init : goal.loop-n-init
+loop-n-init c = left_first c.symbol.new.self c.args.set
+
+pub loop-n-preserved : goal.loop-n-preserved
+loop-n-preserved c =
+    let l = c.loop-n in
+    let j = c.if-has in
+    elim j.branch [
+      | then-has+in_ok-member w ↦
+        left_member l.out j.out c.symbol.new.self l.is_first j.is_first c.args.set l.n c.loop-n-test.true w.if-has.ensures l.invariant (w.out-is ∙ w.in_ok-member.ensures) w.is_first-is
+      | else-has w ↦ left_other l.out j.out c.symbol.new.self l.is_first j.is_first c.args.set l.n c.loop-n-test.true w.if-has.ensures l.invariant w.out-is w.is_first-is
+    ]
+
+pub returns : goal.returns
+returns c =
+    let l = c.loop-n in
+    let is : put l.out right_brace ≡ puts c.args.out.now (set_lexemes c.args.set) =
+      left_none l.out c.args.out.now c.symbol.new.self l.is_first c.args.set l.n c.loop-n-test.false c.in_ok-symbol.ensures l.invariant in
+    subst (λ w. OnOk c.symbol-2.result (c.symbol-2.new.self ≡ w)) is c.symbol-2.ensures
