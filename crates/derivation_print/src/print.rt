@@ -7,11 +7,12 @@ ghost use Rattle.spelling.specs.Derivations as step;
 ghost use Rattle.derivation_print.specs.Members.{member_lexemes};
 ghost use Rattle.spelling.specs.Writing.{puts, ended, lines};
 
+use crate::members::Members;
 use spelling::Writer;
 use star_model::derivations::Deriv;
 use star_model::plans::{Goal, GlueOp};
 use star_model::rules::Flavour;
-use star_model::sets::{PredSet, QuantSet};
+use star_model::sets::QuantSet;
 use std::alloc::{AllocError, Global};
 
 fn glue_word(operator: GlueOp) -> &'static [u8]
@@ -64,24 +65,8 @@ fn member(out: &mut Writer, is_first: bool, n: u8) -> Result<(), AllocError>
     out.number(u64::from(n) + 1)
 }
 
-#[tactic(auto)]
-fn quantifiers(out: &mut Writer, set: QuantSet) -> Result<(), AllocError>
-    ensures { OnOk result (out.new ≡ puts out.old (set_lexemes set)) }
-{
-    out.symbol(b"{")?;
-    let mut is_first = true;
-    for n in 0..32 {
-        if set.has(n) {
-            member(out, is_first, n)?;
-            is_first = false;
-        }
-    }
-    out.symbol(b"}")
-}
-
-#[tactic(auto)]
-fn predicates(out: &mut Writer, set: PredSet) -> Result<(), AllocError>
-    ensures { OnOk result (out.new ≡ puts out.old (set_lexemes set)) }
+fn set<S: Members>(out: &mut Writer, set: S) -> Result<(), AllocError>
+    ensures { OnOk result (out.new ≡ puts out.old (set_lexemes (S.number set))) }
 {
     out.symbol(b"{")?;
     let mut is_first = true;
@@ -102,8 +87,8 @@ fn parts(out: &mut Writer, split: &Option<(QuantSet, QuantSet)>) -> Result<(), A
         None => Ok(()),
         Some((left, right)) => {
             out.word(b"split")?;
-            quantifiers(out, *left)?;
-            quantifiers(out, *right)
+            set(out, *left)?;
+            set(out, *right)
         }
     }
 }
@@ -117,9 +102,9 @@ fn goal(
     ensures { OnOk result (out.new ≡ ended (puts out.old (statement_of (step.Goal goal.now split.now)))) }
 {
     out.word(b"goal")?;
-    quantifiers(out, goal.tables)?;
+    set(out, goal.tables)?;
     out.word(b"pushed")?;
-    predicates(out, goal.pushed)?;
+    set(out, goal.pushed)?;
     parts(out, split)?;
     out.end_statement()
 }
