@@ -1,12 +1,12 @@
 -- The members of a set, written one after the other: those that are left complete the set.
-use Rattle.std.proofs.Common.{◌≡◌, ℕ, zero, suc, ◌+◌, ◌-◌, ◌<◌, ◌≤◌, Bool, true, false, if◌then◌else◌, List, [], ◌∷◌, ◌++◌, map, filter, Result, Ok, Err, OnOk, refl, sym, ap, ◌∙◌, subst, arith}
+use Rattle.std.proofs.Common.{◌≡◌, ℕ, zero, suc, ◌+◌, ◌-◌, ◌<◌, ◌≤◌, Bool, true, false, if◌then◌else◌, List, [], ◌∷◌, ◌++◌, map, filter, refl, sym, ap, ◌∙◌, arith}
 use Rattle.std.specs.List.{range_with_len}
 use Rattle.star_model.specs.Sets.{has, members, members_from, places}
 use Rattle.spelling.specs.Lexemes.{Lexeme, Number, left_brace, right_brace, comma, joined_by}
 use Rattle.spelling.specs.Derivations.{set_lexemes}
 use Rattle.spelling.specs.Writing.{Written, put, puts}
 use Rattle.spelling.proofs.Laws.{puts-more, puts-none, puts-append}
-use Rattle.derivation_print.specs.Members.{member_lexemes, members_lexemes}
+use Rattle.derivation_print.specs.Members.{member_lexemes}
 
 -- ---- the members from a number on
 
@@ -28,6 +28,10 @@ unfolding members members_from places
 from_start s = refl
 
 -- ---- how they are written
+
+unfoldable pub members_lexemes : Bool → List ℕ → List Lexeme
+members_lexemes is_first [] = []
+members_lexemes is_first (n ∷ more) = member_lexemes is_first n ++ members_lexemes false more
 
 joined : (ns : List ℕ) → members_lexemes true ns ≡ joined_by comma (map (λ n. Number (n + 1) ∷ []) ns)
 unfolding members_lexemes
@@ -60,8 +64,8 @@ unfolding members_lexemes
 left_none w old all is_first s k above opened left =
     let inside = joined_by comma (map (λ n. Number (n + 1) ∷ []) (members s)) in
     let is : w ≡ puts (put old left_brace) inside =
-      sym (ap (λ ns. puts w (members_lexemes is_first ns)) (from_end s k above) ∙ puts-none w)
-      ∙ left ∙ ap (puts all) (joined (members s)) ∙ ap (λ u. puts u inside) opened in
+    sym (ap (λ ns. puts w (members_lexemes is_first ns)) (from_end s k above) ∙ puts-none w)
+    ∙ left ∙ ap (puts all) (joined (members s)) ∙ ap (λ u. puts u inside) opened in
     ap (λ u. put u right_brace) is
     ∙ sym (puts-more old left_brace (inside ++ right_brace ∷ []) ∙ puts-append (put old left_brace) inside (right_brace ∷ [])
-      ∙ puts-more (puts (put old left_brace) inside) right_brace [] ∙ puts-none (put (puts (put old left_brace) inside) right_brace))
+    ∙ puts-more (puts (put old left_brace) inside) right_brace [] ∙ puts-none (put (puts (put old left_brace) inside) right_brace))

@@ -1,15 +1,13 @@
 -- What is written of a derivation is what is written of its first statement, and then of its parts.
-use Rattle.std.proofs.Common.{◌≡◌, ℕ, List, [], ◌∷◌, ◌++◌, map, Option, refl, ap, ◌∙◌}
+use Rattle.std.proofs.Common.{◌≡◌, ℕ, List, [], ◌∷◌, ◌++◌, map, Option, ap, ◌∙◌}
 use Rattle.std.proofs.lemmas.List.{map-append}
 use Rattle.star_model.specs.declared.plans.GlueOp.{GlueOp}
 use Rattle.star_model.specs.declared.plans.Goal as model
 use Rattle.star_model.specs.declared.rules.Flavour.{Flavour}
 use Rattle.star_model.specs.declared.derivations.Deriv.{Deriv}
 use Rattle.star_model.specs.declared.derivations.Deriv.TheVariants as made
-use Rattle.spelling.specs.Lexemes.{Lexeme}
-use Rattle.spelling.specs.Layout.{layout}
 use Rattle.spelling.specs.Derivations.{Step, Glue, Goal, Reference, Operator, steps, statement_of, statements_of, steps-Glue, steps-Goal, steps-Reference, steps-Leaf, steps-Unary, steps-Binary}
-use Rattle.spelling.specs.Writing.{Written, whole, puts, ended, lines}
+use Rattle.spelling.specs.Writing.{Written, puts, ended, lines}
 use Rattle.spelling.proofs.Laws.{lines-more, lines-none, lines-append, lines-layout}
 
 abbrev first : Written → Step → Written
@@ -45,4 +43,5 @@ lines-Binary w f left right =
     ∙ lines-append (first w (Operator f)) (statements_of left) (statements_of right)
 
 pub ruleset nodes = (lines-Glue, lines-Goal, lines-Reference, lines-Leaf, lines-Unary, lines-Binary)
+
 pub ruleset whole_text = (lines-layout)

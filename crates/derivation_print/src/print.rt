@@ -10,7 +10,7 @@ ghost use Rattle.spelling.specs.Writing.{puts, ended, lines};
 use crate::members::Members;
 use spelling::Writer;
 use star_model::derivations::Deriv;
-use star_model::plans::{Goal, GlueOp};
+use star_model::plans::{GlueOp, Goal};
 use star_model::rules::Flavour;
 use star_model::sets::QuantSet;
 use std::alloc::{AllocError, Global};
@@ -44,7 +44,7 @@ fn flavour_word(flavour: Flavour) -> &'static [u8]
 }
 
 #[tactic(auto, using(spelling::proofs::Laws::writing))]
-fn glue(out: &mut Writer, chain: &[GlueOp]) -> Result<(), AllocError>
+fn print_glue(out: &mut Writer, chain: &[GlueOp]) -> Result<(), AllocError>
     ensures { OnOk result (out.new ≡ ended (puts out.old (statement_of (step.Glue chain.now)))) }
 {
     out.word(b"glue")?;
@@ -56,7 +56,7 @@ fn glue(out: &mut Writer, chain: &[GlueOp]) -> Result<(), AllocError>
 
 // A member of a set, counted from 1, behind a comma where another stands before it.
 #[tactic(auto, using(spelling::proofs::Laws::writing))]
-fn member(out: &mut Writer, is_first: bool, n: u8) -> Result<(), AllocError>
+fn print_member(out: &mut Writer, is_first: bool, n: u8) -> Result<(), AllocError>
     ensures { OnOk result (out.new ≡ puts out.old (member_lexemes is_first n)) }
 {
     if !is_first {
@@ -65,14 +65,14 @@ fn member(out: &mut Writer, is_first: bool, n: u8) -> Result<(), AllocError>
     out.number(u64::from(n) + 1)
 }
 
-fn set<S: Members>(out: &mut Writer, set: S) -> Result<(), AllocError>
+fn print_set<S: Members>(out: &mut Writer, set: S) -> Result<(), AllocError>
     ensures { OnOk result (out.new ≡ puts out.old (set_lexemes (S.number set))) }
 {
     out.symbol(b"{")?;
     let mut is_first = true;
     for n in 0..32 {
         if set.has(n) {
-            member(out, is_first, n)?;
+            print_member(out, is_first, n)?;
             is_first = false;
         }
     }
@@ -80,21 +80,21 @@ fn set<S: Members>(out: &mut Writer, set: S) -> Result<(), AllocError>
 }
 
 #[tactic(auto, using(spelling::proofs::Laws::writing))]
-fn parts(out: &mut Writer, split: &Option<(QuantSet, QuantSet)>) -> Result<(), AllocError>
+fn print_split(out: &mut Writer, split: &Option<(QuantSet, QuantSet)>) -> Result<(), AllocError>
     ensures { OnOk result (out.new ≡ puts out.old (split_lexemes split.now)) }
 {
     match split {
         None => Ok(()),
         Some((left, right)) => {
             out.word(b"split")?;
-            set(out, *left)?;
-            set(out, *right)
+            print_set(out, *left)?;
+            print_set(out, *right)
         }
     }
 }
 
 #[tactic(auto, using(spelling::proofs::Laws::writing))]
-fn goal(
+fn print_goal(
     out: &mut Writer,
     goal: &Goal,
     split: &Option<(QuantSet, QuantSet)>,
@@ -102,15 +102,15 @@ fn goal(
     ensures { OnOk result (out.new ≡ ended (puts out.old (statement_of (step.Goal goal.now split.now)))) }
 {
     out.word(b"goal")?;
-    set(out, goal.tables)?;
+    print_set(out, goal.tables)?;
     out.word(b"pushed")?;
-    set(out, goal.pushed)?;
-    parts(out, split)?;
+    print_set(out, goal.pushed)?;
+    print_split(out, split)?;
     out.end_statement()
 }
 
 #[tactic(auto, using(spelling::proofs::Laws::writing))]
-fn reference(
+fn print_reference(
     out: &mut Writer,
     star: &[u8],
     alternative: u32,
@@ -128,7 +128,7 @@ fn reference(
 }
 
 #[tactic(auto, using(spelling::proofs::Laws::writing))]
-fn operator(out: &mut Writer, flavour: Flavour) -> Result<(), AllocError>
+fn print_operator(out: &mut Writer, flavour: Flavour) -> Result<(), AllocError>
     ensures { OnOk result (out.new ≡ ended (puts out.old (statement_of (step.Operator flavour)))) }
 {
     out.word(flavour_word(flavour))?;
@@ -136,21 +136,17 @@ fn operator(out: &mut Writer, flavour: Flavour) -> Result<(), AllocError>
 }
 
 #[tactic(auto, using(crate::proofs::Steps::nodes))]
-fn node(out: &mut Writer, deriv: &Deriv) -> Result<(), AllocError>
+fn print_node(out: &mut Writer, deriv: &Deriv) -> Result<(), AllocError>
     ensures { OnOk result (out.new ≡ lines out.old (statements_of deriv.now)) }
 {
     match deriv {
         Deriv::Glue { chain, goal } => {
-            glue(out, chain.as_slice())?;
-            node(out, goal.get())
+            print_glue(out, chain.as_slice())?;
+            print_node(out, goal.get())
         }
-        Deriv::Goal {
-            goal: aim,
-            split,
-            body,
-        } => {
-            goal(out, aim, split)?;
-            node(out, body.get())
+        Deriv::Goal { goal, split, body } => {
+            print_goal(out, goal, split)?;
+            print_node(out, body.get())
         }
         Deriv::Reference {
             star,
@@ -158,22 +154,22 @@ fn node(out: &mut Writer, deriv: &Deriv) -> Result<(), AllocError>
             values,
             body,
         } => {
-            reference(out, star.as_slice(), *alternative, values.as_slice())?;
-            node(out, body.get())
+            print_reference(out, star.as_slice(), *alternative, values.as_slice())?;
+            print_node(out, body.get())
         }
-        Deriv::Leaf { flavour } => operator(out, *flavour),
+        Deriv::Leaf { flavour } => print_operator(out, *flavour),
         Deriv::Unary { flavour, input } => {
-            operator(out, *flavour)?;
-            node(out, input.get())
+            print_operator(out, *flavour)?;
+            print_node(out, input.get())
         }
         Deriv::Binary {
             flavour,
             left,
             right,
         } => {
-            operator(out, *flavour)?;
-            node(out, left.get())?;
-            node(out, right.get())
+            print_operator(out, *flavour)?;
+            print_node(out, left.get())?;
+            print_node(out, right.get())
         }
     }
 }
@@ -186,6 +182,6 @@ pub fn print_derivation(alloc: Global, deriv: &Deriv) -> Result<Vec<u8>, AllocEr
     ensures { IfOk result (λ text. text.items ≡ canonical deriv.now) }
 {
     let mut out = Writer::new(alloc);
-    node(&mut out, deriv)?;
+    print_node(&mut out, deriv)?;
     Ok(out.into_bytes())
 }

@@ -1,5 +1,5 @@
 use Rattle.derivation_print.proofs.Sets.{IsLeft}
-use Rattle.derivation_print.proofs.print.set.Given as goal
+use Rattle.derivation_print.proofs.print.print_set.Given as goal
 
 -- the members from n on complete the set
 abbrev pub invariant-loop-n : goal.invariant-loop-n

@@ -2,7 +2,7 @@ use Rattle.std.proofs.Common.{◌≡◌, map, drop}
 use Rattle.spelling.specs.Lexemes.{Word}
 use Rattle.spelling.specs.Derivations.{Glue, glue_word, statement_of}
 use Rattle.spelling.specs.Writing.{puts}
-use Rattle.derivation_print.proofs.print.glue.Given as goal
+use Rattle.derivation_print.proofs.print.print_glue.Given as goal
 
 -- the words that are left complete the statement
 abbrev pub invariant-loop-operator : goal.invariant-loop-operator

@@ -2,7 +2,7 @@ use Rattle.std.proofs.Common.{◌≡◌, map, drop}
 use Rattle.spelling.specs.Lexemes.{Number}
 use Rattle.spelling.specs.Derivations.{Reference, statement_of}
 use Rattle.spelling.specs.Writing.{puts}
-use Rattle.derivation_print.proofs.print.reference.Given as goal
+use Rattle.derivation_print.proofs.print.print_reference.Given as goal
 
 -- the numbers that are left complete the statement
 abbrev pub invariant-loop-value : goal.invariant-loop-value
