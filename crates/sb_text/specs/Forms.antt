@@ -35,6 +35,7 @@ quoted inner = 39 ∷ (doubled inner ++ 39 ∷ [])
 abbrev pub IsText : List ℕ → Type 0
 IsText bytes = (inner : List ℕ) × (bytes ≡ quoted inner)
 
+-- the 17 symbols of one byte and the three of two
 abbrev pub symbols : List (List ℕ)
 symbols = map (λ b. b ∷ []) symbol_bytes ++ codes "<=" ∷ codes "<>" ∷ codes ">=" ∷ []
 

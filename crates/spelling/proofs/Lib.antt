@@ -6,6 +6,7 @@ mod FormulaCanon
 mod Numerals
 mod Statements
 mod CatalogueLaws
+mod CatalogueWriting
 mod QueryLaws
 mod DerivationLaws
 mod TokenForms
@@ -16,6 +17,13 @@ mod ConditionLaws
 mod FormulaLaws
 mod RuleLaws
 mod Thin
+mod Written
+mod LayoutLaws
+mod Formed
+mod Forming
+mod DerivationWriting
+mod RuleWriting
 pub mod Laws
+mod ReadingLaws
 mod Signs
 mod WritingLaws

@@ -1,5 +1,5 @@
 -- What the form of a token says of its bytes.
-use Rattle.std.proofs.Common.{◌≡◌, ℕ, ◌+◌, ◌-◌, ◌<◌, ◌≤◌, Bool, true, ◌&&◌, List, [], ◌∷◌, length, take, drop, arith, subst, nat_le}
+use Rattle.std.proofs.Common.{◌≡◌, ℕ, ◌-◌, true, List, [], ◌∷◌, take, drop, arith, subst, nat_le}
 use Rattle.std.specs.Prelude.{slice_range}
 use Rattle.std.specs.List.{AllPass}
 use Rattle.std.specs.Str.Parse.{AllDigits}
@@ -14,7 +14,7 @@ use Rattle.sb_text.specs.declared.token.TokenKind.{TokenKind}
 use Rattle.sb_text.specs.declared.token.TokenKind.TheVariants as kind
 use Rattle.spelling.specs.Cursors.{IsMachineNumber}
 
-all_digits : (bytes : List ℕ) → AllPass is_digit bytes → AllDigits 10 bytes
+pub all_digits : (bytes : List ℕ) → AllPass is_digit bytes → AllDigits 10 bytes
 all_digits [] pass = tt
 all_digits (b ∷ bytes) pass =
     let digit : is_digit b ≡ true = pass 0 0 (omega arith) in

@@ -1,5 +1,5 @@
 -- Which text spells a rule file.
-use Rattle.std.specs.Prelude.{◌≡◌, ℕ, ◌+◌, List, [], ◌∷◌, ◌++◌, length, map, Option, Some, None, codes}
+use Rattle.std.specs.Prelude.{◌≡◌, ℕ, ◌+◌, List, [], ◌∷◌, ◌++◌, length, map, Option, Some, None, codes, nat_lt, if◌then◌else◌}
 use Rattle.std.specs.List.{flat_map}
 use Rattle.star_model.specs.Kinds.{argument_kinds}
 use Rattle.star_model.specs.PlanExprCases as expr
@@ -15,6 +15,7 @@ use Rattle.star_model.specs.declared.rules.StarDef.{StarDef}
 use Rattle.star_model.specs.declared.rules.FormulaDef.{FormulaDef}
 use Rattle.star_model.specs.declared.rules.RuleFile.{RuleFile}
 use Rattle.spelling.specs.Lexemes.{Lexeme, Word, IsStatements, bar, equals, joined_by, Every, HasItem}
+use Rattle.spelling.specs.Layout.{layout}
 use Rattle.spelling.specs.Flavours.{flavour_word, inputs_of, which_word, kind_word}
 use Rattle.spelling.specs.Formulas.{SpellsFormula, formula_lexemes}
 use Rattle.spelling.specs.Values.{IsName, call, value_lexemes, IsValue, range_lexemes, IsRange, condition_lexemes, IsCondition}
@@ -125,3 +126,35 @@ pub record SpellsRules (text : List ℕ) (rules : RuleFile) : Type 0 where
   pub statements : List (List Lexeme)
   pub are : IsStatements text statements
   pub define : SpellsDefinitions 1 statements rules.formulas rules.stars
+
+-- ---- how a rule file is written: by the numbers of its statements
+
+pub data Definition : Type 0 where
+  OfFormula : FormulaDef → Definition
+  OfStar : StarDef → Definition
+
+abbrev pub number_of : Definition → ℕ
+number_of (OfFormula d) = d.statement
+number_of (OfStar s) = s.statement
+
+abbrev pub definition_lexemes : Definition → List Lexeme
+definition_lexemes (OfFormula d) = formula_def_lexemes d
+definition_lexemes (OfStar s) = star_lexemes s
+
+-- before the first with a greater number
+abbrev pub put_in : Definition → List Definition → List Definition
+put_in x [] = x ∷ []
+put_in x (y ∷ later) = if nat_lt (number_of x) (number_of y) then x ∷ y ∷ later else y ∷ put_in x later
+
+unfoldable pub in_order : List Definition → List Definition
+in_order [] = []
+in_order (x ∷ later) = put_in x (in_order later)
+
+abbrev pub definitions : List FormulaDef → List StarDef → List Definition
+definitions formulas stars = in_order (map OfFormula formulas ++ map OfStar stars)
+
+abbrev pub rule_lexemes : RuleFile → List (List Lexeme)
+rule_lexemes rules = map definition_lexemes (definitions rules.formulas rules.stars)
+
+abbrev pub canonical : RuleFile → List ℕ
+canonical rules = layout (rule_lexemes rules)

@@ -1,5 +1,5 @@
 // Reading the lexemes of a statement from the front.
-ghost use Rattle.std.specs.Prelude.{◌≡◌, option_map, option_copied, ℕ, IsTrue, ◌↔◌, [], ◌<◌, length, drop};
+ghost use Rattle.std.specs.Prelude.{◌≡◌, option_map, option_copied, ℕ, IsTrue, ◌↔◌, [], ◌<◌, length, drop, IfOk};
 ghost use Rattle.spelling.specs.Lexemes.{undoubled, lexeme_of, lexemes_of};
 ghost use Rattle.spelling.specs.Cursors.{AreTokensOf, IsMachineNumber};
 ghost use Rattle.std.specs.Str.Parse.{digits_value};
@@ -8,6 +8,7 @@ ghost use Rattle.sb_text.specs.Reading.{IsTokenOf};
 ghost use Rattle.spelling.specs.Reading.{Reads, the_word, the_symbol, a_word, a_number, a_text};
 
 use sb_text::{Token, TokenKind};
+use std::alloc::{AllocError, Global};
 use std::marker::Model;
 
 /// The lexemes of a statement that are still to be read. Where a method answers `None`, the next lexeme is no such one.
@@ -172,4 +173,21 @@ impl<'a> Cursor<'a> {
             _ => None,
         }
     }
+}
+
+/// What a text says that is written so behind its first quote: the bytes with each doubled quote as one.
+pub fn text_bytes(alloc: Global, written: &[u8]) -> Result<Vec<u8>, AllocError>
+    ensures { IfOk result (λ bytes. bytes.items ≡ undoubled written.now) }
+{
+    let mut bytes = Vec::new(alloc);
+    let mut at = 0;
+    while at + 1 < written.len() {
+        bytes.push(written[at])?;
+        if written[at] == b'\'' {
+            at += 2;
+        } else {
+            at += 1;
+        }
+    }
+    Ok(bytes)
 }

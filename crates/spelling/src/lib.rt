@@ -8,6 +8,6 @@ pub mod theorems;
 pub mod words;
 mod writer;
 
-pub use cursor::{Cursor, same_lexeme};
+pub use cursor::{Cursor, same_lexeme, text_bytes};
 pub use ending::Ending;
 pub use writer::Writer;

@@ -1,18 +1,21 @@
 // The laws of the definitions, each the clause of a function that does nothing.
 
-ghost use Rattle.std.specs.Prelude.{◌≡◌, ℕ, List, [], ◌∷◌, ◌++◌, map, true, None};
+ghost use Rattle.std.specs.Prelude.{◌≡◌, ◌↔◌, ℕ, List, [], ◌∷◌, ◌++◌, map, true, None, Some};
 ghost use Rattle.sb_text.specs.declared.token.Token.{Token};
 ghost use Rattle.sb_text.specs.Tokens.{lexed};
 ghost use Rattle.sb_text.specs.Statements.{parts};
-ghost use Rattle.spelling.specs.Lexemes.{Lexeme, IsStatements, lexemes_of, HasItem};
-ghost use Rattle.spelling.specs.Layout.{line, layout};
+ghost use Rattle.spelling.specs.Lexemes.{Lexeme, Word, Number, Text, Symbol, IsStatements, lexemes_of, HasItem, Every};
+ghost use Rattle.spelling.specs.Layout.{line, layout, IsLexeme};
+ghost use Rattle.spelling.specs.Reading.{the_word, the_symbol, a_word, a_number, a_text};
 ghost use Rattle.spelling.specs.Writing.{Written, whole, put, puts, ended, lines};
 ghost use Rattle.spelling.specs.Derivations.{SpellsDerivation};
-ghost use Rattle.spelling.specs.Catalogues.{CatalogueStatement, Site, Table, TablePart, table_from, catalogue_lexemes, SpellsCatalogueStatement, SpellsCatalogue};
+ghost use Rattle.spelling.specs.Catalogues.{CatalogueStatement, catalogue_of, catalogue_statements, Site, Table, TablePart, table_from, catalogue_lexemes, SpellsCatalogueStatement, SpellsCatalogue};
 ghost use Rattle.spelling.specs.Queries.{QueryStatement, only_column, query_lexemes, IsFree, SpellsQueryStatement, SpellsQuery};
 ghost use Rattle.spelling.specs.Formulas.{SpellsFormula, formula_lexemes};
-ghost use Rattle.spelling.specs.Rules.{SpellsStar, SpellsFormulaDef, formula_def_lexemes, SpellsRules};
+ghost use Rattle.spelling.specs.Rules.{SpellsStar, SpellsFormulaDef, formula_def_lexemes, rule_lexemes, SpellsRules};
 ghost use Rattle.spelling.specs.Tiny.{tiny_lexemes, tiny_rules};
+ghost use Rattle.star_model.specs.Vectors.{same_numbers};
+ghost use Rattle.star_model.specs.WellFormed.{WellFormedCatalogue};
 ghost use Rattle.star_model.specs.declared.catalogue.Catalogue.{Catalogue};
 ghost use Rattle.star_model.specs.declared.catalogue.SiteDef.{SiteDef};
 ghost use Rattle.star_model.specs.declared.catalogue.TableDef.{TableDef};
@@ -50,6 +53,17 @@ pub fn writing_goes_on()
     ensures append_lines { (w : Written) (early later : List (List Lexeme)) → lines w (early ++ later) ≡ lines (lines w early) later }
 {}
 
+/// The layout of statements is read as these statements, thus also the layout of those of any text.
+pub fn layout_is_read_back()
+    ensures any { (statements : List (List Lexeme)) → Every (Every IsLexeme) statements → IsStatements (layout statements) statements }
+    ensures again { (text : List ℕ) (statements : List (List Lexeme)) → IsStatements text statements → IsStatements (layout statements) statements }
+{}
+
+/// The statements of any text are of lexemes that can be laid out.
+pub fn statements_can_be_laid_out()
+    ensures { (text : List ℕ) (statements : List (List Lexeme)) → IsStatements text statements → Every (Every IsLexeme) statements }
+{}
+
 /// One text spells at most one derivation.
 pub fn one_derivation()
     ensures { (text : List ℕ) (t u : Deriv) → SpellsDerivation text t → SpellsDerivation text u → t ≡ u }
@@ -59,6 +73,12 @@ pub fn one_derivation()
 pub fn one_catalogue()
     ensures text { (text : List ℕ) (c d : Catalogue) → SpellsCatalogue text c → SpellsCatalogue text d → c ≡ d }
     ensures statement { (lexemes : List Lexeme) (s t : CatalogueStatement) → SpellsCatalogueStatement lexemes s → SpellsCatalogueStatement lexemes t → s ≡ t }
+{}
+
+/// How a well-formed catalogue is written means it, and is what its canonical text has to say.
+pub fn catalogues_are_written()
+    ensures means { (c : Catalogue) → WellFormedCatalogue c → catalogue_of (catalogue_statements c) ≡ Some c }
+    ensures spelled { (c : Catalogue) → WellFormedCatalogue c → (text : List ℕ) → IsStatements text (map catalogue_lexemes (catalogue_statements c)) → SpellsCatalogue text c }
 {}
 
 /// One text spells at most one query over a catalogue.
@@ -85,6 +105,11 @@ pub fn one_rule_file()
     ensures formula { (n : ℕ) (lexemes : List Lexeme) (d f : FormulaDef) → SpellsFormulaDef n lexemes d → SpellsFormulaDef n lexemes f → d ≡ f }
 {}
 
+/// Where some text spells a rule file, so does each text with its own statements in the order of their numbers.
+pub fn rule_files_are_written()
+    ensures { (text : List ℕ) (rules : RuleFile) → SpellsRules text rules → (other : List ℕ) → IsStatements other (rule_lexemes rules) → SpellsRules other rules }
+{}
+
 /// What the smallest texts spell: the smallest rule file that is accepted, one site with one table at it, and a query for the
 /// only column of the only table.
 pub fn smallest_texts_spell()
@@ -94,4 +119,18 @@ pub fn smallest_texts_spell()
     ensures query { (catalogue : Catalogue) (text : List ℕ) (t : TableDef) (c : ColumnDef) → catalogue.tables ≡ t ∷ [] → t.columns ≡ c ∷ [] → IsFree t.name
         → IsStatements text (query_lexemes (only_column t.name c.name) ∷ [])
         → SpellsQuery catalogue text (record { catalogue = catalogue; quants = record { name = t.name; table = 0 } ∷ []; select = record { quant = record { 0 = 0 }; column = 0 } ∷ []; preds = []; order = []; site = None }) }
+{}
+
+/// What is read from the front of a list of lexemes stood there, and nothing else is read.
+pub fn readers_read()
+    ensures the_word { (wanted : List ℕ) (lexemes rest : List Lexeme) → (the_word wanted lexemes ≡ Some (tt, rest)) ↔ (lexemes ≡ Word wanted ∷ rest) }
+    ensures the_symbol { (wanted : List ℕ) (lexemes rest : List Lexeme) → (the_symbol wanted lexemes ≡ Some (tt, rest)) ↔ (lexemes ≡ Symbol wanted ∷ rest) }
+    ensures a_word { (lexemes rest : List Lexeme) (bytes : List ℕ) → (a_word lexemes ≡ Some (bytes, rest)) ↔ (lexemes ≡ Word bytes ∷ rest) }
+    ensures a_number { (lexemes rest : List Lexeme) (n : ℕ) → (a_number lexemes ≡ Some (n, rest)) ↔ (lexemes ≡ Number n ∷ rest) }
+    ensures a_text { (lexemes rest : List Lexeme) (bytes : List ℕ) → (a_text lexemes ≡ Some (bytes, rest)) ↔ (lexemes ≡ Text bytes ∷ rest) }
+{}
+
+/// The test of bytes decides that they are the same.
+pub fn same_numbers_are_same()
+    ensures { (a b : List ℕ) → (same_numbers a b ≡ true) ↔ (a ≡ b) }
 {}

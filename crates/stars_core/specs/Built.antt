@@ -1,16 +1,16 @@
--- The texts that have a reader: the heap rules, a catalogue of one site and one table of one column at it, and the query
+-- The texts that have a reader: the tiny rules, a catalogue of one site and one table of one column at it, and the query
 -- that selects this column.
 use Rattle.std.specs.Prelude.{◌≡◌, ◌<◌, ◌≤◌, ℕ, List, [], ◌∷◌, length, slice_get, Option, Some, None, IsUtf8}
 use Prim.Native.Nat.{zero, suc}
 use Rattle.star_model.specs.Numbers.{top}
 use Rattle.star_model.specs.declared.catalogue.SiteDef.{SiteDef}
 use Rattle.star_model.specs.declared.catalogue.ColumnDef.{ColumnDef}
-use Rattle.spelling.specs.Lexemes.{MaybeEnded, statements_in, ended}
+use Rattle.spelling.specs.Lexemes.{MaybeEnded, Every, statements_in, ended}
 use Rattle.spelling.specs.Catalogues.{TablePart, Site, Table, catalogue_lexemes}
-use Rattle.spelling.specs.Queries.{QueryStatement, IsFree, query_lexemes}
+use Rattle.spelling.specs.Queries.{IsFree, only_column, query_lexemes}
 use Rattle.stars_core.specs.declared.refusal.TextKind.{TextKind}
 use Rattle.stars_core.specs.declared.refusal.TextKind.TheVariants.{Rules, Catalogue, Query}
-use Rattle.stars_core.specs.HeapRules.{heap_statements}
+use Rattle.stars_core.specs.TinyText.{tiny_statements}
 
 -- a text: what it is to be, and its bytes
 abbrev pub Given : Type 0
@@ -49,37 +49,33 @@ pub record IsBuiltTable (s : SiteDef) (t : TablePart) : Type 0 where
   pub rows : t.rows ≤ top
   pub pages : t.pages ≤ top
   pub file : IsFileName t.file
-  pub column : ColumnDef
-  pub columns : t.columns ≡ column ∷ []
-  pub built : IsBuiltColumn column
+  pub columns : Every IsBuiltColumn t.columns
 
 -- the first statement is this site
 pub record BeginsSite (statements : List MaybeEnded) (s : SiteDef) : Type 0 where
   pub is : slice_get statements 0 ≡ Some (ended (catalogue_lexemes (Site s)))
   pub built : IsBuiltSite s
 
+-- the statement is this table, of one column
+pub record IsTableOf (statement : MaybeEnded) (t : TablePart) : Type 0 where
+  pub is : statement ≡ ended (catalogue_lexemes (Table t))
+  pub column : ColumnDef
+  pub columns : t.columns ≡ column ∷ []
+
 -- and the second is this table at it
 pub record HasTable (statements : List MaybeEnded) (s : SiteDef) (t : TablePart) : Type 0 where
   pub site : BeginsSite statements s
-  pub is : slice_get statements 1 ≡ Some (ended (catalogue_lexemes (Table t)))
+  pub statement : MaybeEnded
+  pub second : slice_get statements 1 ≡ Some statement
+  pub is : IsTableOf statement t
   pub built : IsBuiltTable s t
-
--- select TABLE.COLUMN from TABLE
-abbrev pub select_column : List ℕ → List ℕ → QueryStatement
-select_column table column = record {
-  select = record { quantifier = table; column = column } ∷ [];
-  items = record { table = table; name = None } ∷ [];
-  comparisons = [];
-  order = [];
-  site = None;
-}
 
 -- the first statement selects the column of this table
 pub record SelectsFrom (statements : List MaybeEnded) (t : TablePart) : Type 0 where
   pub column : ColumnDef
   pub columns : t.columns ≡ column ∷ []
   pub free : IsFree t.name
-  pub is : slice_get statements 0 ≡ Some (ended (query_lexemes (select_column t.name column.name)))
+  pub is : slice_get statements 0 ≡ Some (ended (query_lexemes (only_column t.name column.name)))
 
 -- the first place, from 0, at which the lists differ or one of them ends
 abbrev pub DifferAt : List MaybeEnded → List MaybeEnded → ℕ → Type 0
@@ -91,7 +87,7 @@ DifferAt (x ∷ xs) (y ∷ ys) (suc n) = (x ≡ y) × DifferAt xs ys n
 
 -- the text has a reader
 abbrev pub IsBuilt : List Given → Given → Type 0
-IsBuilt earlier (Rules, r) = statements_in r ≡ heap_statements
+IsBuilt earlier (Rules, r) = statements_in r ≡ tiny_statements
 IsBuilt earlier (Catalogue, c) = (length (statements_in c) ≡ 2) × (s : SiteDef) × (t : TablePart) × HasTable (statements_in c) s t
 IsBuilt earlier (Query, q) =
     (length (statements_in q) ≡ 1) × (s : SiteDef) × (t : TablePart) × HasTable (statements_in (catalogue_in earlier)) s t × SelectsFrom (statements_in q) t
@@ -108,7 +104,7 @@ NoSelection catalogue statements = (s : SiteDef) (t : TablePart) → HasTable ca
 
 -- The statement with this number, from 1, is the first that has none; it is one more than the last where more are wanted.
 abbrev pub IsUnbuiltAt : List Given → Given → ℕ → Type 0
-IsUnbuiltAt earlier (Rules, r) (suc n) = DifferAt (statements_in r) heap_statements n
+IsUnbuiltAt earlier (Rules, r) (suc n) = DifferAt (statements_in r) tiny_statements n
 IsUnbuiltAt earlier (Catalogue, c) (suc zero) = NoSite (statements_in c)
 IsUnbuiltAt earlier (Catalogue, c) (suc (suc zero)) = (s : SiteDef) × BeginsSite (statements_in c) s × NoTable (statements_in c)
 IsUnbuiltAt earlier (Catalogue, c) (suc (suc (suc zero))) = (s : SiteDef) × (t : TablePart) × HasTable (statements_in c) s t × (2 < length (statements_in c))

@@ -1,5 +1,5 @@
 -- What the statements of a source say.
-use Rattle.std.specs.Prelude.{◌≡◌, ◌≤◌, ℕ, List, length, map, Option, MatchOption}
+use Rattle.std.specs.Prelude.{◌≡◌, ◌≤◌, ℕ, List, length, map, Option, Some, None, MatchOption}
 use Rattle.sb_text.specs.Refusal.{fault_of}
 use Rattle.sb_text.specs.declared.statement.Statement.{Statement}
 use Rattle.spelling.specs.Lexemes.{MaybeEnded, Every, lexemes_of, statements_in}
@@ -24,3 +24,8 @@ pub record IsCut (source : List ℕ) (statements : List Statement) : Type 0 wher
 -- whether the text has a reader, else the first statement that has none
 abbrev pub AnswersBuilt : List Given → Given → Option ℕ → Type 0
 AnswersBuilt earlier this answer = MatchOption answer (IsBuilt earlier this) (IsUnbuiltAt earlier this)
+
+-- where something is found, it is one; where nothing is found, there is none
+abbrev pub Finds : {A W : Type 0} → (W → A) → (A → Type 0) → Option W → Type 0
+Finds {A} view Is None = (a : A) → Is a → ⊥
+Finds view Is (Some found) = Is (view found)

@@ -1,7 +1,8 @@
 pub mod CommandLine
 pub mod Lines
-pub mod HeapRules
+pub mod TinyText
 pub mod Built
+pub mod ThinReading
 pub mod Cut
 pub mod Faults
 pub mod Judging

@@ -7,14 +7,14 @@ ghost use Rattle.spelling.specs.Cursors.{AreTokensOf};
 ghost use Rattle.stars_core.specs.Built.{Given, DifferAt};
 ghost use Rattle.stars_core.specs.declared.refusal.TextKind.TheVariants.{Rules};
 ghost use Rattle.stars_core.specs.Judging.{Tokenised};
-ghost use Rattle.stars_core.specs.HeapRules.{heap_text};
+ghost use Rattle.stars_core.specs.TinyText.{tiny_text};
 ghost use Rattle.stars_core.specs.Cut.{IsCut, IsOf, AnswersBuilt, said_of, said_by};
 
 use sb_text::{Statement, TextFault, Token, statements, tokens};
 use spelling::same_lexeme;
 use std::alloc::{AllocError, Global};
 
-const HEAP_RULES: &str = "cost ACCESS_HEAP = 10 * pages + cpu * rows;
+const TINY_RULES: &str = "cost ACCESS_HEAP = 10 * pages + cpu * rows;
 rescan ACCESS_HEAP = 10 * pages + cpu * rows;
 cost SORT = cost1 + 4 * card1;
 rescan SORT = rescan1 + 4 * card1;
@@ -77,17 +77,17 @@ fn same_statement(
     this.ended == that.ended && same_lexemes(source, this.tokens, other, that.tokens)
 }
 
-fn heap_text() -> &'static [u8]
-    ensures { result.now ≡ heap_text }
+fn tiny_text() -> &'static [u8]
+    ensures { result.now ≡ tiny_text }
 {
-    HEAP_RULES.as_bytes()
+    TINY_RULES.as_bytes()
 }
 
-// The tokens of the heap rules.
-fn heap_tokens(alloc: Global) -> Result<Vec<Token>, AllocError>
-    ensures { IfOk result (λ list. AreTokens heap_text list.items) }
+// The tokens of the tiny rules.
+fn tiny_tokens(alloc: Global) -> Result<Vec<Token>, AllocError>
+    ensures { IfOk result (λ list. AreTokens tiny_text list.items) }
 {
-    match tokens(alloc, heap_text()) {
+    match tokens(alloc, tiny_text()) {
         Ok(list) => Ok(list),
         Err(TextFault::Memory) => Err(AllocError),
         Err(TextFault::Lexical(_)) => unreachable!(),
@@ -121,17 +121,17 @@ fn first_difference(
     Some(place + 1)
 }
 
-// The number of the first statement that differs from the heap rules.
+// The number of the first statement that differs from the tiny rules.
 fn first_strange_rule(
     source: &[u8],
     statements: &[Statement<'_>],
-    heap: &[Statement<'_>],
+    tiny: &[Statement<'_>],
 ) -> Option<u32>
     requires statements { IsCut source.now statements.now }
-    requires heap { IsCut heap_text heap.now }
+    requires tiny { IsCut tiny_text tiny.now }
     ensures { (earlier : List Given) → AnswersBuilt earlier (Rules, source.now) result }
 {
-    match first_difference(source, statements, heap_text(), heap) {
+    match first_difference(source, statements, tiny_text(), tiny) {
         Some(place) => Some(place as u32 + 1),
         None => None,
     }
@@ -146,8 +146,8 @@ pub fn unbuilt_rules(
     requires { IsCut source.now statements.now }
     ensures { IfOk result (λ answer. (earlier : List Given) → AnswersBuilt earlier (Rules, source.now) answer) }
 {
-    let tokens = heap_tokens(alloc)?;
-    let heap = cut(alloc, heap_text(), tokens.as_slice())?;
-    let answer = first_strange_rule(source, statements, heap.as_slice());
+    let tokens = tiny_tokens(alloc)?;
+    let tiny = cut(alloc, tiny_text(), tokens.as_slice())?;
+    let answer = first_strange_rule(source, statements, tiny.as_slice());
     Ok(answer)
 }

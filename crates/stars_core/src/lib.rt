@@ -10,6 +10,7 @@ mod laws;
 mod read;
 mod refusal;
 mod status;
+mod thin;
 mod top;
 
 pub use answer::Answer;

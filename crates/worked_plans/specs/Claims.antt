@@ -1,6 +1,7 @@
 -- What is claimed of derivations, expressions, formulas and operators. A table of rows is claimed as one equation.
-use Rattle.std.specs.Prelude.{◌≡◌, ℕ, Bool, true, false, is_some, List, map, Option, Some, None}
+use Rattle.std.specs.Prelude.{◌≡◌, ℕ, min, nat_lt, Bool, true, false, is_some, List, [], ◌∷◌, ◌++◌, map, filter, find, fold, Option, Some, None, unwrap_or}
 use Rattle.std.specs.List.{list_all, list_any}
+use Rattle.std.specs.Option.{option_map}
 use Rattle.star_model.specs.Formulas.{value}
 use Rattle.star_model.specs.Monotone.{passes, first_offending}
 use Rattle.star_model.specs.Meaning.{meaning, holds, members_of}
@@ -12,6 +13,16 @@ use Rattle.star_model.specs.Plans.{is_chain}
 use Rattle.star_model.specs.Goals.{is_target}
 use Rattle.star_model.specs.Expected.{ForGoal}
 use Rattle.star_model.specs.Judging.{Judgement, Vector, FirstInvalid, judge, judge_root}
+use Rattle.star_model.specs.Kinds.{kind_of, kind_of_range, is_kinded}
+use Rattle.star_model.specs.declared.rules.Kind.{Kind}
+use Rattle.star_model.specs.Accepted.{is_unknown, is_star_twice, is_formula_twice, has_wrong_arity, has_wrong_kind, lacks_root, lacks_formula, height_of, weight_of}
+use Rattle.star_model.specs.declared.faults.RuleFault.{RuleFault}
+use Rattle.star_model.specs.declared.faults.RuleFault.TheVariants as fault
+use Rattle.star_model.specs.declared.faults.Root.TheVariants as root
+use Rattle.star_model.specs.declared.rules.Flavour.{Flavour}
+use Rattle.star_model.specs.declared.rules.Flavour.TheVariants as flavour
+use Rattle.star_model.specs.declared.rules.StarDef.{StarDef}
+use Rattle.star_model.specs.declared.rules.FormulaDef.{FormulaDef}
 use Rattle.star_model.specs.declared.formula.Formula.{Formula}
 use Rattle.star_model.specs.declared.formula.Vars.{Vars}
 use Rattle.star_model.specs.declared.query.Query.{Query}
@@ -55,6 +66,66 @@ HoldAs query bindings rows = map (λ row. holds query bindings row.0) rows ≡ m
 -- the members of ranges, in their order
 abbrev pub RangeAs : Query → List RuleValue → List (Range × List RuleValue) → Type 0
 RangeAs query bindings rows = map (λ row. members_of query bindings row.0) rows ≡ map (λ row. row.1) rows
+
+-- the kinds of expressions, where names have these kinds
+abbrev pub HaveKinds : List Kind → List (ValueExpr × Option Kind) → Type 0
+HaveKinds bound rows = map (λ row. kind_of bound row.0) rows ≡ map (λ row. row.1) rows
+
+-- the kinds of the members of ranges
+abbrev pub RangeOverKinds : List Kind → List (Range × Option Kind) → Type 0
+RangeOverKinds bound rows = map (λ row. kind_of_range bound row.0) rows ≡ map (λ row. row.1) rows
+
+-- whether conditions are well kinded
+abbrev pub AreKinded : List Kind → List (Condition × Bool) → Type 0
+AreKinded bound rows = map (λ row. is_kinded bound row.0) rows ≡ map (λ row. row.1) rows
+
+-- the operators, in the order of their table
+abbrev pub flavours : List Flavour
+flavours =
+    flavour.AccessHeap ∷ flavour.AccessIndex ∷ flavour.Get ∷ flavour.Filter ∷ flavour.Sort ∷ flavour.Store ∷ flavour.Ship ∷ flavour.Probe
+    ∷ flavour.JoinNl ∷ flavour.JoinMerge ∷ flavour.JoinHash ∷ []
+
+-- the first of those that are there
+abbrev pub first_of : List (Option RuleFault) → Option RuleFault
+first_of [] = None
+first_of (None ∷ faults) = first_of faults
+first_of (Some fault ∷ faults) = Some fault
+
+-- the least number
+abbrev pub least : List ℕ → Option ℕ
+least [] = None
+least (n ∷ ns) = Some (fold min n ns)
+
+module _ (rules : RuleFile) where
+  abbrev pub first_star : (StarDef → Bool) → (StarDef → RuleFault) → Option RuleFault
+  first_star test fault_of = option_map fault_of (find test rules.stars)
+
+  abbrev pub first_twice : Option RuleFault
+  first_twice = option_map fault.Twice
+      (least (map (λ s. s.statement) (filter (is_star_twice rules) rules.stars) ++ map (λ d. d.statement) (filter (is_formula_twice rules) rules.formulas)))
+
+  abbrev pub not_monotone : FormulaDef → RuleFault
+  not_monotone d = fault.NotMonotone d.flavour d.which (unwrap_or (first_offending d.formula) 0)
+
+  -- the first fault that a test finds. No test finds a cycle, nor Glue below accesses
+  abbrev pub first_fault : Option RuleFault
+  first_fault = first_of (
+      first_star (is_unknown rules) (λ s. fault.Unknown s.statement)
+      ∷ first_twice
+      ∷ first_star (has_wrong_arity rules) (λ s. fault.Arity s.statement)
+      ∷ first_star (has_wrong_kind rules) (λ s. fault.Kind s.statement)
+      ∷ option_map fault.NoRoot (find (lacks_root rules) (root.AccessRoot ∷ root.JoinRoot ∷ []))
+      ∷ option_map fault.NoFormula (find (lacks_formula rules) flavours)
+      ∷ option_map not_monotone (find (λ d. is_some (first_offending d.formula)) rules.formulas)
+      ∷ first_star (λ s. nat_lt 16 (height_of rules s)) (λ s. fault.TooTall s.statement (height_of rules s))
+      ∷ first_star (λ s. nat_lt 4096 (weight_of rules s)) (λ s. fault.TooWide s.statement (weight_of rules s))
+      ∷ [])
+
+abbrev pub HasFault : RuleFile → RuleFault → Type 0
+HasFault rules fault = first_fault rules ≡ Some fault
+
+abbrev pub HasNoFault : RuleFile → Type 0
+HasNoFault rules = first_fault rules ≡ None
 
 -- the variables in their order, from 1 to 15
 abbrev pub counting : Vars

@@ -7,6 +7,9 @@ use Rattle.star_model.specs.declared.derivations.Deriv.TheVariants as derivation
 use Rattle.star_model.specs.declared.plans.GlueOp.TheVariants as glue
 use Rattle.star_model.specs.declared.rules.Flavour.TheVariants as flavour
 
+abbrev pub alternative_beyond : Deriv
+alternative_beyond = (d.Glue [] (d.Goal (record { tables = 1; pushed = 0 }) None (d.Reference (codes "AccessRoot") 2 [] (derivation.Leaf flavour.AccessHeap))))
+
 abbrev pub both_stored : Deriv
 both_stored = (d.Glue [] (d.Goal (record { tables = 3; pushed = 0 }) (Some (1, 2)) (d.Reference (codes "JoinRoot") 1 [] (d.Binary flavour.JoinNl (d.Glue [] (d.Goal (record { tables = 1; pushed = 0 }) None (d.Reference (codes "AccessRoot") 2 [] (d.Unary flavour.Store (derivation.Leaf flavour.AccessHeap))))) (d.Glue [] (d.Goal (record { tables = 2; pushed = 0 }) None (d.Reference (codes "AccessRoot") 2 [] (d.Unary flavour.Store (derivation.Leaf flavour.AccessHeap)))))))))
 
@@ -37,11 +40,20 @@ false_condition = (d.Glue [] (d.Goal (record { tables = 3; pushed = 0 }) (Some (
 abbrev pub filter_for_heap : Deriv
 filter_for_heap = (d.Glue [] (d.Goal (record { tables = 1; pushed = 0 }) None (d.Reference (codes "AccessRoot") 1 [] (d.Unary flavour.Filter (d.Unary flavour.Filter (d.Unary flavour.Filter (d.Unary flavour.Filter (derivation.Leaf flavour.AccessHeap))))))))
 
+abbrev pub first_of_two : Deriv
+first_of_two = (d.Glue [] (d.Goal (record { tables = 1; pushed = 0 }) None (d.Reference (codes "AccessRoot") 1 [] (derivation.Leaf flavour.AccessHeap))))
+
 abbrev pub five_tables : Deriv
 five_tables = (d.Glue (glue.Sort ∷ []) (d.Goal (record { tables = 31; pushed = 0 }) (Some (15, 16)) (d.Reference (codes "JoinRoot") 1 (1 ∷ []) (d.Reference (codes "JoinAt") 2 [] (d.Binary flavour.JoinNl (d.Glue [] (d.Goal (record { tables = 15; pushed = 0 }) (Some (7, 8)) (d.Reference (codes "JoinRoot") 1 (1 ∷ []) (d.Reference (codes "JoinAt") 2 [] (d.Binary flavour.JoinNl (d.Glue [] (d.Goal (record { tables = 7; pushed = 0 }) (Some (3, 4)) (d.Reference (codes "JoinRoot") 1 (1 ∷ []) (d.Reference (codes "JoinAt") 2 [] (d.Binary flavour.JoinNl (d.Glue [] (d.Goal (record { tables = 3; pushed = 0 }) (Some (1, 2)) (d.Reference (codes "JoinRoot") 1 (1 ∷ []) (d.Reference (codes "JoinAt") 2 [] (d.Binary flavour.JoinNl (d.Glue [] (d.Goal (record { tables = 1; pushed = 0 }) None (d.Reference (codes "AccessRoot") 1 [] (derivation.Leaf flavour.AccessHeap)))) (d.Glue (glue.Store ∷ []) (d.Goal (record { tables = 2; pushed = 0 }) None (d.Reference (codes "AccessRoot") 1 [] (derivation.Leaf flavour.AccessHeap))))))))) (d.Glue (glue.Ship ∷ glue.Store ∷ []) (d.Goal (record { tables = 4; pushed = 0 }) None (d.Reference (codes "AccessRoot") 1 [] (derivation.Leaf flavour.AccessHeap))))))))) (d.Glue (glue.Ship ∷ glue.Store ∷ []) (d.Goal (record { tables = 8; pushed = 0 }) None (d.Reference (codes "AccessRoot") 1 [] (derivation.Leaf flavour.AccessHeap))))))))) (d.Glue (glue.Store ∷ []) (d.Goal (record { tables = 16; pushed = 0 }) None (d.Reference (codes "AccessRoot") 1 [] (derivation.Leaf flavour.AccessHeap)))))))))
 
 abbrev pub generated_hash : Deriv
 generated_hash = (d.Glue (glue.Sort ∷ []) (d.Goal (record { tables = 3; pushed = 0 }) (Some (2, 1)) (d.Reference (codes "JoinRoot") 1 [] (d.Reference (codes "Both") 2 [] (d.Binary flavour.JoinHash (d.Glue [] (d.Goal (record { tables = 2; pushed = 0 }) None (d.Reference (codes "AccessRoot") 2 (2 ∷ []) (derivation.Leaf flavour.AccessIndex)))) (d.Glue [] (d.Goal (record { tables = 1; pushed = 0 }) None (d.Reference (codes "AccessRoot") 2 (1 ∷ []) (derivation.Leaf flavour.AccessIndex)))))))))
+
+abbrev pub goal_with_more_pushed : Deriv
+goal_with_more_pushed = (d.Glue [] (d.Goal (record { tables = 3; pushed = 0 }) (Some (1, 2)) (d.Reference (codes "JoinRoot") 1 [] (d.Binary flavour.JoinNl (d.Glue [] (d.Goal (record { tables = 1; pushed = 0 }) None (d.Reference (codes "AccessRoot") 1 [] (derivation.Leaf flavour.AccessHeap)))) (d.Glue [] (d.Goal (record { tables = 2; pushed = 1 }) None (d.Reference (codes "AccessRoot") 1 [] (derivation.Leaf flavour.AccessHeap))))))))
+
+abbrev pub goal_without_pushed : Deriv
+goal_without_pushed = (d.Glue [] (d.Goal (record { tables = 3; pushed = 0 }) (Some (1, 2)) (d.Reference (codes "JoinRoot") 1 [] (d.Binary flavour.JoinNl (d.Glue [] (d.Goal (record { tables = 1; pushed = 0 }) None (d.Reference (codes "AccessRoot") 1 [] (derivation.Leaf flavour.AccessHeap)))) (d.Glue [] (d.Goal (record { tables = 2; pushed = 0 }) None (d.Reference (codes "AccessRoot") 2 (1 ∷ []) (derivation.Leaf flavour.AccessIndex))))))))
 
 abbrev pub groups : Deriv
 groups = (d.Glue (glue.Sort ∷ []) (d.Goal (record { tables = 3; pushed = 0 }) (Some (1, 2)) (d.Reference (codes "JoinRoot") 1 [] (d.Reference (codes "Keyed") 1 [] (d.Binary flavour.JoinMerge (d.Glue (glue.Sort ∷ []) (d.Goal (record { tables = 1; pushed = 0 }) None (d.Reference (codes "AccessRoot") 1 [] (derivation.Leaf flavour.AccessHeap)))) (d.Glue (glue.Sort ∷ []) (d.Goal (record { tables = 2; pushed = 0 }) None (d.Reference (codes "AccessRoot") 1 [] (derivation.Leaf flavour.AccessHeap)))))))))
@@ -52,6 +64,9 @@ heap_for_department = (d.Glue [] (d.Goal (record { tables = 1; pushed = 0 }) Non
 abbrev pub heap_is_sorted : Deriv
 heap_is_sorted = (d.Glue (glue.Sort ∷ []) (d.Goal (record { tables = 1; pushed = 0 }) None (d.Reference (codes "AccessRoot") 1 [] (derivation.Leaf flavour.AccessHeap))))
 
+abbrev pub heap_with_number : Deriv
+heap_with_number = (d.Glue [] (d.Goal (record { tables = 1; pushed = 0 }) None (d.Reference (codes "AccessRoot") 1 (1 ∷ []) (derivation.Leaf flavour.AccessHeap))))
+
 abbrev pub index_alone : Deriv
 index_alone = (d.Glue [] (d.Goal (record { tables = 1; pushed = 0 }) None (d.Reference (codes "AccessRoot") 2 (1 ∷ []) (derivation.Leaf flavour.AccessIndex))))
 
@@ -61,11 +76,26 @@ index_and_get = (d.Glue [] (d.Goal (record { tables = 1; pushed = 0 }) None (d.R
 abbrev pub index_has_the_order : Deriv
 index_has_the_order = (d.Glue [] (d.Goal (record { tables = 1; pushed = 0 }) None (d.Reference (codes "AccessRoot") 2 (1 ∷ []) (derivation.Leaf flavour.AccessIndex))))
 
+abbrev pub index_of_another_table : Deriv
+index_of_another_table = (d.Glue (glue.Sort ∷ []) (d.Goal (record { tables = 3; pushed = 0 }) (Some (2, 1)) (d.Reference (codes "JoinRoot") 1 [] (d.Reference (codes "Both") 2 [] (d.Binary flavour.JoinHash (d.Glue [] (d.Goal (record { tables = 2; pushed = 0 }) None (d.Reference (codes "AccessRoot") 2 (1 ∷ []) (derivation.Leaf flavour.AccessIndex)))) (d.Glue [] (d.Goal (record { tables = 1; pushed = 0 }) None (d.Reference (codes "AccessRoot") 2 (1 ∷ []) (derivation.Leaf flavour.AccessIndex)))))))))
+
 abbrev pub index_order_is_dearer : Deriv
 index_order_is_dearer = (d.Glue [] (d.Goal (record { tables = 1; pushed = 0 }) None (d.Reference (codes "AccessRoot") 3 (1 ∷ []) (d.Unary flavour.Get (derivation.Leaf flavour.AccessIndex)))))
 
+abbrev pub index_out_of_range : Deriv
+index_out_of_range = (d.Glue [] (d.Goal (record { tables = 1; pushed = 0 }) None (d.Reference (codes "AccessRoot") 2 (2 ∷ []) (derivation.Leaf flavour.AccessIndex))))
+
+abbrev pub index_without_number : Deriv
+index_without_number = (d.Glue [] (d.Goal (record { tables = 1; pushed = 0 }) None (d.Reference (codes "AccessRoot") 2 [] (derivation.Leaf flavour.AccessIndex))))
+
+abbrev pub joined_elsewhere : Deriv
+joined_elsewhere = (d.Glue (glue.Ship ∷ []) (d.Goal (record { tables = 3; pushed = 0 }) (Some (1, 2)) (d.Reference (codes "JoinRoot") 1 (2 ∷ []) (d.Reference (codes "JoinAt") 2 [] (d.Binary flavour.JoinNl (d.Glue (glue.Ship ∷ []) (d.Goal (record { tables = 1; pushed = 0 }) None (d.Reference (codes "AccessRoot") 1 [] (derivation.Leaf flavour.AccessHeap)))) (d.Glue (glue.Ship ∷ glue.Store ∷ []) (d.Goal (record { tables = 2; pushed = 0 }) None (d.Reference (codes "AccessRoot") 1 [] (derivation.Leaf flavour.AccessHeap)))))))))
+
 abbrev pub merged_by_index : Deriv
 merged_by_index = (d.Glue [] (d.Goal (record { tables = 3; pushed = 0 }) (Some (1, 2)) (d.Reference (codes "JoinRoot") 1 (1 ∷ []) (d.Reference (codes "JoinAt") 3 [] (d.Reference (codes "Keyed") 1 [] (d.Binary flavour.JoinMerge (d.Glue (glue.Sort ∷ []) (d.Goal (record { tables = 1; pushed = 0 }) None (d.Reference (codes "AccessRoot") 1 [] (derivation.Leaf flavour.AccessHeap)))) (d.Glue [] (d.Goal (record { tables = 2; pushed = 0 }) None (d.Reference (codes "AccessRoot") 2 (1 ∷ []) (derivation.Leaf flavour.AccessIndex))))))))))
+
+abbrev pub no_split : Deriv
+no_split = (d.Glue [] (d.Goal (record { tables = 3; pushed = 0 }) None (d.Reference (codes "JoinRoot") 1 [] (d.Binary flavour.JoinNl (d.Glue [] (d.Goal (record { tables = 1; pushed = 0 }) None (d.Reference (codes "AccessRoot") 1 [] (derivation.Leaf flavour.AccessHeap)))) (d.Glue [] (d.Goal (record { tables = 2; pushed = 0 }) None (d.Reference (codes "AccessRoot") 1 [] (derivation.Leaf flavour.AccessHeap))))))))
 
 abbrev pub not_pushed : Deriv
 not_pushed = (d.Glue [] (d.Goal (record { tables = 3; pushed = 0 }) (Some (1, 2)) (d.Reference (codes "JoinRoot") 2 [] (d.Binary flavour.JoinNl (d.Glue [] (d.Goal (record { tables = 1; pushed = 0 }) None (d.Reference (codes "AccessRoot") 1 [] (derivation.Leaf flavour.AccessHeap)))) (d.Glue [] (d.Goal (record { tables = 2; pushed = 0 }) None (d.Reference (codes "AccessRoot") 2 (1 ∷ []) (derivation.Leaf flavour.AccessIndex))))))))
@@ -73,11 +103,29 @@ not_pushed = (d.Glue [] (d.Goal (record { tables = 3; pushed = 0 }) (Some (1, 2)
 abbrev pub not_shipped : Deriv
 not_shipped = (d.Glue (glue.Sort ∷ []) (d.Goal (record { tables = 1; pushed = 0 }) None (d.Reference (codes "AccessRoot") 1 [] (derivation.Leaf flavour.AccessHeap))))
 
+abbrev pub other_access : Deriv
+other_access = (d.Glue [] (d.Goal (record { tables = 1; pushed = 0 }) None (d.Reference (codes "AccessRoot") 1 [] (derivation.Leaf flavour.AccessIndex))))
+
+abbrev pub other_join : Deriv
+other_join = (d.Glue [] (d.Goal (record { tables = 3; pushed = 0 }) (Some (1, 2)) (d.Reference (codes "JoinRoot") 1 [] (d.Binary flavour.JoinHash (d.Glue [] (d.Goal (record { tables = 1; pushed = 0 }) None (d.Reference (codes "AccessRoot") 1 [] (derivation.Leaf flavour.AccessHeap)))) (d.Glue [] (d.Goal (record { tables = 2; pushed = 0 }) None (d.Reference (codes "AccessRoot") 1 [] (derivation.Leaf flavour.AccessHeap))))))))
+
+abbrev pub other_operator : Deriv
+other_operator = (d.Glue [] (d.Goal (record { tables = 1; pushed = 0 }) None (d.Reference (codes "AccessRoot") 2 [] (d.Unary flavour.Sort (derivation.Leaf flavour.AccessHeap)))))
+
+abbrev pub other_star : Deriv
+other_star = (d.Glue [] (d.Goal (record { tables = 1; pushed = 0 }) None (d.Reference (codes "JoinRoot") 1 [] (derivation.Leaf flavour.AccessHeap))))
+
 abbrev pub pairs : Deriv
 pairs = (d.Glue (glue.Sort ∷ []) (d.Goal (record { tables = 3; pushed = 0 }) (Some (1, 2)) (d.Reference (codes "JoinRoot") 1 [] (d.Binary flavour.JoinNl (d.Glue [] (d.Goal (record { tables = 1; pushed = 0 }) None (d.Reference (codes "AccessRoot") 1 [] (derivation.Leaf flavour.AccessHeap)))) (d.Glue [] (d.Goal (record { tables = 2; pushed = 0 }) None (d.Reference (codes "AccessRoot") 1 [] (derivation.Leaf flavour.AccessHeap))))))))
 
+abbrev pub parts_exchanged : Deriv
+parts_exchanged = (d.Glue [] (d.Goal (record { tables = 3; pushed = 0 }) (Some (1, 2)) (d.Reference (codes "JoinRoot") 1 [] (d.Binary flavour.JoinNl (d.Glue [] (d.Goal (record { tables = 2; pushed = 0 }) None (d.Reference (codes "AccessRoot") 1 [] (derivation.Leaf flavour.AccessHeap)))) (d.Glue [] (d.Goal (record { tables = 1; pushed = 0 }) None (d.Reference (codes "AccessRoot") 1 [] (derivation.Leaf flavour.AccessHeap))))))))
+
 abbrev pub plain_heaps : Deriv
 plain_heaps = (d.Glue [] (d.Goal (record { tables = 3; pushed = 0 }) (Some (1, 2)) (d.Reference (codes "JoinRoot") 1 [] (d.Binary flavour.JoinNl (d.Glue [] (d.Goal (record { tables = 1; pushed = 0 }) None (d.Reference (codes "AccessRoot") 1 [] (derivation.Leaf flavour.AccessHeap)))) (d.Glue [] (d.Goal (record { tables = 2; pushed = 0 }) None (d.Reference (codes "AccessRoot") 1 [] (derivation.Leaf flavour.AccessHeap))))))))
+
+abbrev pub predicate_missing : Deriv
+predicate_missing = (d.Glue [] (d.Goal (record { tables = 1; pushed = 0 }) None (d.Reference (codes "AccessRoot") 1 [] (derivation.Leaf flavour.AccessHeap))))
 
 abbrev pub probed : Deriv
 probed = (d.Glue [] (d.Goal (record { tables = 3; pushed = 0 }) (Some (1, 2)) (d.Reference (codes "JoinRoot") 1 (1 ∷ []) (d.Reference (codes "JoinAt") 3 [] (d.Reference (codes "Keyed") 3 [] (d.Binary flavour.JoinNl (d.Glue [] (d.Goal (record { tables = 1; pushed = 0 }) None (d.Reference (codes "AccessRoot") 1 [] (derivation.Leaf flavour.AccessHeap)))) (d.Unary flavour.Probe (d.Glue (glue.Store ∷ []) (d.Goal (record { tables = 2; pushed = 0 }) None (d.Reference (codes "AccessRoot") 2 (1 ∷ []) (derivation.Leaf flavour.AccessIndex)))))))))))
@@ -87,6 +135,9 @@ pushed_predicate = (d.Glue [] (d.Goal (record { tables = 3; pushed = 0 }) (Some 
 
 abbrev pub pushed_twice : Deriv
 pushed_twice = (d.Glue [] (d.Goal (record { tables = 7; pushed = 0 }) (Some (4, 3)) (d.Reference (codes "JoinRoot") 1 [] (d.Binary flavour.JoinNl (d.Glue [] (d.Goal (record { tables = 4; pushed = 0 }) None (d.Reference (codes "AccessRoot") 2 (1 ∷ []) (derivation.Leaf flavour.AccessIndex)))) (d.Glue [] (d.Goal (record { tables = 3; pushed = 2 }) (Some (1, 2)) (d.Reference (codes "JoinRoot") 2 [] (d.Binary flavour.JoinNl (d.Glue [] (d.Goal (record { tables = 1; pushed = 0 }) None (d.Reference (codes "AccessRoot") 1 [] (derivation.Leaf flavour.AccessHeap)))) (d.Glue [] (d.Goal (record { tables = 2; pushed = 2 }) None (d.Reference (codes "AccessRoot") 2 (1 ∷ []) (derivation.Leaf flavour.AccessIndex))))))))))))
+
+abbrev pub second_of_two : Deriv
+second_of_two = (d.Glue [] (d.Goal (record { tables = 1; pushed = 0 }) None (d.Reference (codes "AccessRoot") 2 [] (derivation.Leaf flavour.AccessHeap))))
 
 abbrev pub shipped_then_sorted : Deriv
 shipped_then_sorted = (d.Glue (glue.Ship ∷ glue.Sort ∷ []) (d.Goal (record { tables = 1; pushed = 0 }) None (d.Reference (codes "AccessRoot") 1 [] (derivation.Leaf flavour.AccessHeap))))
@@ -106,8 +157,29 @@ sorted_then_shipped_exchanged = (d.Glue (glue.Sort ∷ glue.Ship ∷ []) (d.Goal
 abbrev pub sorted_twice : Deriv
 sorted_twice = (d.Glue (glue.Sort ∷ glue.Sort ∷ []) (d.Goal (record { tables = 1; pushed = 0 }) None (d.Reference (codes "AccessRoot") 1 [] (derivation.Leaf flavour.AccessHeap))))
 
+abbrev pub split_of_less : Deriv
+split_of_less = (d.Glue [] (d.Goal (record { tables = 7; pushed = 0 }) (Some (1, 2)) (d.Reference (codes "JoinRoot") 1 [] (d.Binary flavour.JoinNl (d.Glue [] (d.Goal (record { tables = 1; pushed = 0 }) None (d.Reference (codes "AccessRoot") 1 [] (derivation.Leaf flavour.AccessHeap)))) (d.Glue [] (d.Goal (record { tables = 2; pushed = 0 }) None (d.Reference (codes "AccessRoot") 1 [] (derivation.Leaf flavour.AccessHeap))))))))
+
+abbrev pub split_of_one : Deriv
+split_of_one = (d.Glue [] (d.Goal (record { tables = 1; pushed = 0 }) (Some (1, 1)) (d.Reference (codes "AccessRoot") 1 [] (derivation.Leaf flavour.AccessHeap))))
+
+abbrev pub split_with_empty_part : Deriv
+split_with_empty_part = (d.Glue [] (d.Goal (record { tables = 3; pushed = 0 }) (Some (0, 3)) (d.Reference (codes "JoinRoot") 1 [] (d.Binary flavour.JoinNl (d.Glue [] (d.Goal (record { tables = 0; pushed = 0 }) None (d.Reference (codes "AccessRoot") 1 [] (derivation.Leaf flavour.AccessHeap)))) (d.Glue [] (d.Goal (record { tables = 3; pushed = 0 }) None (d.Reference (codes "AccessRoot") 1 [] (derivation.Leaf flavour.AccessHeap))))))))
+
+abbrev pub split_with_overlap : Deriv
+split_with_overlap = (d.Glue [] (d.Goal (record { tables = 3; pushed = 0 }) (Some (3, 2)) (d.Reference (codes "JoinRoot") 1 [] (d.Binary flavour.JoinNl (d.Glue [] (d.Goal (record { tables = 3; pushed = 0 }) None (d.Reference (codes "AccessRoot") 1 [] (derivation.Leaf flavour.AccessHeap)))) (d.Glue [] (d.Goal (record { tables = 2; pushed = 0 }) None (d.Reference (codes "AccessRoot") 1 [] (derivation.Leaf flavour.AccessHeap))))))))
+
+abbrev pub stored_without_need : Deriv
+stored_without_need = (d.Glue (glue.Store ∷ []) (d.Goal (record { tables = 1; pushed = 0 }) None (d.Reference (codes "AccessRoot") 1 [] (derivation.Leaf flavour.AccessHeap))))
+
 abbrev pub thousand_rows : Deriv
 thousand_rows = (d.Glue [] (d.Goal (record { tables = 1; pushed = 0 }) None (d.Reference (codes "AccessRoot") 1 [] (derivation.Leaf flavour.AccessHeap))))
+
+abbrev pub unsorted : Deriv
+unsorted = (d.Glue [] (d.Goal (record { tables = 1; pushed = 0 }) None (d.Reference (codes "AccessRoot") 1 [] (derivation.Leaf flavour.AccessHeap))))
+
+abbrev pub unsorted_input : Deriv
+unsorted_input = (d.Glue (glue.Sort ∷ []) (d.Goal (record { tables = 3; pushed = 0 }) (Some (1, 2)) (d.Reference (codes "JoinRoot") 1 [] (d.Reference (codes "Keyed") 1 [] (d.Binary flavour.JoinMerge (d.Glue (glue.Sort ∷ []) (d.Goal (record { tables = 1; pushed = 0 }) None (d.Reference (codes "AccessRoot") 1 [] (derivation.Leaf flavour.AccessHeap)))) (d.Glue [] (d.Goal (record { tables = 2; pushed = 0 }) None (d.Reference (codes "AccessRoot") 1 [] (derivation.Leaf flavour.AccessHeap)))))))))
 
 abbrev pub goal_of_pairs : Deriv
 goal_of_pairs = (d.Goal (record { tables = 3; pushed = 0 }) (Some (1, 2)) (d.Reference (codes "JoinRoot") 1 [] (d.Binary flavour.JoinNl (d.Glue [] (d.Goal (record { tables = 1; pushed = 0 }) None (d.Reference (codes "AccessRoot") 1 [] (derivation.Leaf flavour.AccessHeap)))) (d.Glue [] (d.Goal (record { tables = 2; pushed = 0 }) None (d.Reference (codes "AccessRoot") 1 [] (derivation.Leaf flavour.AccessHeap)))))))

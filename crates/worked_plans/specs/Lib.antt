@@ -6,3 +6,5 @@ pub mod Claims
 pub mod Formulas
 pub mod Values
 pub mod Operators
+pub mod Kinds
+pub mod Tables

@@ -197,6 +197,16 @@ t_filled = record {
   site = None;
 }
 
+abbrev pub two_tables : Query
+two_tables = record {
+  catalogue = catalogue.orders;
+  quants = (record { name = codes "n"; table = 0 } ∷ record { name = codes "c"; table = 1 } ∷ []);
+  select = (record { quant = record { 0 = 0 }; column = 1 } ∷ record { quant = record { 0 = 1 }; column = 2 } ∷ []);
+  preds = (record { left = record { quant = record { 0 = 1 }; column = 1 }; cmp = cmp.Eq; right = operand.Column (record { quant = record { 0 = 0 }; column = 0 }) } ∷ []);
+  order = [];
+  site = Some (record { 0 = 0 });
+}
+
 abbrev pub unshipped : Query
 unshipped = record {
   catalogue = catalogue.two_sites;

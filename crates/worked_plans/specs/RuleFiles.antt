@@ -110,8 +110,8 @@ stored_heaps = record {
       ∷ [];
 }
 
-abbrev pub formulas_of_tiny : List FormulaDef
-formulas_of_tiny =
+abbrev pub formulas_of_tie : List FormulaDef
+formulas_of_tie =
     record { statement = 1; flavour = flavour.AccessHeap; which = which.Cost; formula = (f.Add (f.Mul (formula.Number 10) (formula.Variable var.Pages)) (f.Mul (formula.Variable var.Cpu) (formula.Variable var.Rows))) }
     ∷ record { statement = 2; flavour = flavour.AccessHeap; which = which.Rescan; formula = (f.Add (f.Mul (formula.Number 10) (formula.Variable var.Pages)) (f.Mul (formula.Variable var.Cpu) (formula.Variable var.Rows))) }
     ∷ record { statement = 3; flavour = flavour.Sort; which = which.Cost; formula = (f.Add (formula.Variable var.Cost1) (f.Mul (formula.Number 4) (formula.Variable var.Card1))) }
@@ -122,18 +122,98 @@ formulas_of_tiny =
     ∷ record { statement = 8; flavour = flavour.Ship; which = which.Rescan; formula = (f.Add (formula.Variable var.Rescan1) (f.Mul (f.Mul (formula.Variable var.Net) (formula.Variable var.Card1)) (formula.Variable var.Width1))) }
     ∷ []
 
+abbrev pub tie : RuleFile
+tie = record {
+  formulas = formulas_of_tie;
+  stars =
+      record { statement = 9; name = codes "AccessRoot"; params = (record { name = codes "A"; kind = kind.Stream } ∷ record { name = codes "J"; kind = kind.Preds } ∷ []); alternatives = (record { ranges = []; condition = None; body = (plan.Leaf flavour.AccessHeap ((value.Variable (codes "A") 0) ∷ (value.Variable (codes "J") 1) ∷ [])) } ∷ record { ranges = []; condition = None; body = (plan.Leaf flavour.AccessHeap ((value.Variable (codes "A") 0) ∷ (value.Variable (codes "J") 1) ∷ [])) } ∷ []) }
+      ∷ record { statement = 10; name = codes "JoinRoot"; params = (record { name = codes "A"; kind = kind.Stream } ∷ record { name = codes "B"; kind = kind.Stream } ∷ record { name = codes "J"; kind = kind.Preds } ∷ []); alternatives = (record { ranges = []; condition = None; body = (plan.Leaf flavour.AccessHeap ((value.Variable (codes "A") 0) ∷ (value.Variable (codes "J") 2) ∷ [])) } ∷ []) }
+      ∷ [];
+}
+
 abbrev pub tiny : RuleFile
 tiny = record {
-  formulas = formulas_of_tiny;
+  formulas = formulas_of_tie;
   stars =
       record { statement = 9; name = codes "AccessRoot"; params = (record { name = codes "A"; kind = kind.Stream } ∷ record { name = codes "J"; kind = kind.Preds } ∷ []); alternatives = (record { ranges = []; condition = None; body = (plan.Leaf flavour.AccessHeap ((value.Variable (codes "A") 0) ∷ (value.Variable (codes "J") 1) ∷ [])) } ∷ []) }
       ∷ record { statement = 10; name = codes "JoinRoot"; params = (record { name = codes "A"; kind = kind.Stream } ∷ record { name = codes "B"; kind = kind.Stream } ∷ record { name = codes "J"; kind = kind.Preds } ∷ []); alternatives = (record { ranges = []; condition = None; body = (plan.Leaf flavour.AccessHeap ((value.Variable (codes "A") 0) ∷ (value.Variable (codes "J") 2) ∷ [])) } ∷ []) }
       ∷ [];
 }
 
+abbrev pub tall : RuleFile
+tall = record {
+  formulas = formulas_of_tie;
+  stars =
+      record { statement = 9; name = codes "AccessRoot"; params = (record { name = codes "A"; kind = kind.Stream } ∷ record { name = codes "J"; kind = kind.Preds } ∷ []); alternatives = (record { ranges = []; condition = None; body = (plan.Reference (codes "H2") ((value.Variable (codes "A") 0) ∷ (value.Variable (codes "J") 1) ∷ [])) } ∷ []) }
+      ∷ record { statement = 10; name = codes "JoinRoot"; params = (record { name = codes "A"; kind = kind.Stream } ∷ record { name = codes "B"; kind = kind.Stream } ∷ record { name = codes "J"; kind = kind.Preds } ∷ []); alternatives = (record { ranges = []; condition = None; body = (plan.Leaf flavour.AccessHeap ((value.Variable (codes "A") 0) ∷ (value.Variable (codes "J") 2) ∷ [])) } ∷ []) }
+      ∷ record { statement = 11; name = codes "H2"; params = (record { name = codes "A"; kind = kind.Stream } ∷ record { name = codes "J"; kind = kind.Preds } ∷ []); alternatives = (record { ranges = []; condition = None; body = (plan.Reference (codes "H3") ((value.Variable (codes "A") 0) ∷ (value.Variable (codes "J") 1) ∷ [])) } ∷ []) }
+      ∷ record { statement = 12; name = codes "H3"; params = (record { name = codes "A"; kind = kind.Stream } ∷ record { name = codes "J"; kind = kind.Preds } ∷ []); alternatives = (record { ranges = []; condition = None; body = (plan.Reference (codes "H4") ((value.Variable (codes "A") 0) ∷ (value.Variable (codes "J") 1) ∷ [])) } ∷ []) }
+      ∷ record { statement = 13; name = codes "H4"; params = (record { name = codes "A"; kind = kind.Stream } ∷ record { name = codes "J"; kind = kind.Preds } ∷ []); alternatives = (record { ranges = []; condition = None; body = (plan.Reference (codes "H5") ((value.Variable (codes "A") 0) ∷ (value.Variable (codes "J") 1) ∷ [])) } ∷ []) }
+      ∷ record { statement = 14; name = codes "H5"; params = (record { name = codes "A"; kind = kind.Stream } ∷ record { name = codes "J"; kind = kind.Preds } ∷ []); alternatives = (record { ranges = []; condition = None; body = (plan.Reference (codes "H6") ((value.Variable (codes "A") 0) ∷ (value.Variable (codes "J") 1) ∷ [])) } ∷ []) }
+      ∷ record { statement = 15; name = codes "H6"; params = (record { name = codes "A"; kind = kind.Stream } ∷ record { name = codes "J"; kind = kind.Preds } ∷ []); alternatives = (record { ranges = []; condition = None; body = (plan.Reference (codes "H7") ((value.Variable (codes "A") 0) ∷ (value.Variable (codes "J") 1) ∷ [])) } ∷ []) }
+      ∷ record { statement = 16; name = codes "H7"; params = (record { name = codes "A"; kind = kind.Stream } ∷ record { name = codes "J"; kind = kind.Preds } ∷ []); alternatives = (record { ranges = []; condition = None; body = (plan.Reference (codes "H8") ((value.Variable (codes "A") 0) ∷ (value.Variable (codes "J") 1) ∷ [])) } ∷ []) }
+      ∷ record { statement = 17; name = codes "H8"; params = (record { name = codes "A"; kind = kind.Stream } ∷ record { name = codes "J"; kind = kind.Preds } ∷ []); alternatives = (record { ranges = []; condition = None; body = (plan.Reference (codes "H9") ((value.Variable (codes "A") 0) ∷ (value.Variable (codes "J") 1) ∷ [])) } ∷ []) }
+      ∷ record { statement = 18; name = codes "H9"; params = (record { name = codes "A"; kind = kind.Stream } ∷ record { name = codes "J"; kind = kind.Preds } ∷ []); alternatives = (record { ranges = []; condition = None; body = (plan.Reference (codes "H10") ((value.Variable (codes "A") 0) ∷ (value.Variable (codes "J") 1) ∷ [])) } ∷ []) }
+      ∷ record { statement = 19; name = codes "H10"; params = (record { name = codes "A"; kind = kind.Stream } ∷ record { name = codes "J"; kind = kind.Preds } ∷ []); alternatives = (record { ranges = []; condition = None; body = (plan.Reference (codes "H11") ((value.Variable (codes "A") 0) ∷ (value.Variable (codes "J") 1) ∷ [])) } ∷ []) }
+      ∷ record { statement = 20; name = codes "H11"; params = (record { name = codes "A"; kind = kind.Stream } ∷ record { name = codes "J"; kind = kind.Preds } ∷ []); alternatives = (record { ranges = []; condition = None; body = (plan.Reference (codes "H12") ((value.Variable (codes "A") 0) ∷ (value.Variable (codes "J") 1) ∷ [])) } ∷ []) }
+      ∷ record { statement = 21; name = codes "H12"; params = (record { name = codes "A"; kind = kind.Stream } ∷ record { name = codes "J"; kind = kind.Preds } ∷ []); alternatives = (record { ranges = []; condition = None; body = (plan.Reference (codes "H13") ((value.Variable (codes "A") 0) ∷ (value.Variable (codes "J") 1) ∷ [])) } ∷ []) }
+      ∷ record { statement = 22; name = codes "H13"; params = (record { name = codes "A"; kind = kind.Stream } ∷ record { name = codes "J"; kind = kind.Preds } ∷ []); alternatives = (record { ranges = []; condition = None; body = (plan.Reference (codes "H14") ((value.Variable (codes "A") 0) ∷ (value.Variable (codes "J") 1) ∷ [])) } ∷ []) }
+      ∷ record { statement = 23; name = codes "H14"; params = (record { name = codes "A"; kind = kind.Stream } ∷ record { name = codes "J"; kind = kind.Preds } ∷ []); alternatives = (record { ranges = []; condition = None; body = (plan.Reference (codes "H15") ((value.Variable (codes "A") 0) ∷ (value.Variable (codes "J") 1) ∷ [])) } ∷ []) }
+      ∷ record { statement = 24; name = codes "H15"; params = (record { name = codes "A"; kind = kind.Stream } ∷ record { name = codes "J"; kind = kind.Preds } ∷ []); alternatives = (record { ranges = []; condition = None; body = (plan.Reference (codes "H16") ((value.Variable (codes "A") 0) ∷ (value.Variable (codes "J") 1) ∷ [])) } ∷ []) }
+      ∷ record { statement = 25; name = codes "H16"; params = (record { name = codes "A"; kind = kind.Stream } ∷ record { name = codes "J"; kind = kind.Preds } ∷ []); alternatives = (record { ranges = []; condition = None; body = (plan.Leaf flavour.AccessHeap ((value.Variable (codes "A") 0) ∷ (value.Variable (codes "J") 1) ∷ [])) } ∷ []) }
+      ∷ [];
+}
+
+abbrev pub formulas_of_variables : List FormulaDef
+formulas_of_variables =
+    record { statement = 1; flavour = flavour.AccessHeap; which = which.Cost; formula = (f.Add (formula.Variable var.Cpu) (f.Mul (formula.Number 1000) (f.Add (formula.Variable var.Net) (f.Mul (formula.Number 1000) (f.Add (formula.Variable var.Preds) (f.Mul (formula.Number 1000) (f.Add (formula.Variable var.Rows) (f.Mul (formula.Number 1000) (f.Add (formula.Variable var.Pages) (f.Mul (formula.Number 1000) (formula.Variable var.Card))))))))))) }
+    ∷ record { statement = 2; flavour = flavour.AccessHeap; which = which.Rescan; formula = (f.Add (formula.Variable var.Width) (f.Mul (formula.Number 1000) (f.Add (formula.Variable var.Width1) (f.Mul (formula.Number 1000) (f.Add (formula.Variable var.Width2) (f.Mul (formula.Number 1000) (f.Add (formula.Variable var.Card1) (f.Mul (formula.Number 1000) (f.Add (formula.Variable var.Card2) (f.Mul (formula.Number 1000) (formula.Variable var.One))))))))))) }
+    ∷ record { statement = 3; flavour = flavour.AccessIndex; which = which.Cost; formula = (f.Add (formula.Variable var.Cpu) (f.Mul (formula.Number 1000) (f.Add (formula.Variable var.Net) (f.Mul (formula.Number 1000) (f.Add (formula.Variable var.Preds) (f.Mul (formula.Number 1000) (f.Add (formula.Variable var.Rows) (f.Mul (formula.Number 1000) (f.Add (formula.Variable var.Pages) (f.Mul (formula.Number 1000) (formula.Variable var.Card))))))))))) }
+    ∷ record { statement = 4; flavour = flavour.AccessIndex; which = which.Rescan; formula = (f.Add (formula.Variable var.Width) (f.Mul (formula.Number 1000) (f.Add (formula.Variable var.Width1) (f.Mul (formula.Number 1000) (f.Add (formula.Variable var.Width2) (f.Mul (formula.Number 1000) (f.Add (formula.Variable var.Card1) (f.Mul (formula.Number 1000) (f.Add (formula.Variable var.Card2) (f.Mul (formula.Number 1000) (formula.Variable var.One))))))))))) }
+    ∷ record { statement = 5; flavour = flavour.Get; which = which.Cost; formula = (f.Add (formula.Variable var.Cpu) (f.Mul (formula.Number 1000) (f.Add (formula.Variable var.Net) (f.Mul (formula.Number 1000) (f.Add (formula.Variable var.Preds) (f.Mul (formula.Number 1000) (f.Add (formula.Variable var.Rows) (f.Mul (formula.Number 1000) (f.Add (formula.Variable var.Pages) (f.Mul (formula.Number 1000) (formula.Variable var.Card))))))))))) }
+    ∷ record { statement = 6; flavour = flavour.Get; which = which.Rescan; formula = (f.Add (formula.Variable var.Width) (f.Mul (formula.Number 1000) (f.Add (formula.Variable var.Width1) (f.Mul (formula.Number 1000) (f.Add (formula.Variable var.Width2) (f.Mul (formula.Number 1000) (f.Add (formula.Variable var.Card1) (f.Mul (formula.Number 1000) (f.Add (formula.Variable var.Card2) (f.Mul (formula.Number 1000) (formula.Variable var.One))))))))))) }
+    ∷ record { statement = 7; flavour = flavour.Filter; which = which.Cost; formula = (f.Add (formula.Variable var.Cpu) (f.Mul (formula.Number 1000) (f.Add (formula.Variable var.Net) (f.Mul (formula.Number 1000) (f.Add (formula.Variable var.Preds) (f.Mul (formula.Number 1000) (f.Add (formula.Variable var.Rows) (f.Mul (formula.Number 1000) (f.Add (formula.Variable var.Pages) (f.Mul (formula.Number 1000) (formula.Variable var.Card))))))))))) }
+    ∷ record { statement = 8; flavour = flavour.Filter; which = which.Rescan; formula = (f.Add (formula.Variable var.Width) (f.Mul (formula.Number 1000) (f.Add (formula.Variable var.Width1) (f.Mul (formula.Number 1000) (f.Add (formula.Variable var.Width2) (f.Mul (formula.Number 1000) (f.Add (formula.Variable var.Card1) (f.Mul (formula.Number 1000) (f.Add (formula.Variable var.Card2) (f.Mul (formula.Number 1000) (formula.Variable var.One))))))))))) }
+    ∷ record { statement = 9; flavour = flavour.Sort; which = which.Cost; formula = (f.Add (formula.Variable var.Cpu) (f.Mul (formula.Number 1000) (f.Add (formula.Variable var.Net) (f.Mul (formula.Number 1000) (f.Add (formula.Variable var.Preds) (f.Mul (formula.Number 1000) (f.Add (formula.Variable var.Rows) (f.Mul (formula.Number 1000) (f.Add (formula.Variable var.Pages) (f.Mul (formula.Number 1000) (formula.Variable var.Card))))))))))) }
+    ∷ record { statement = 10; flavour = flavour.Sort; which = which.Rescan; formula = (f.Add (formula.Variable var.Width) (f.Mul (formula.Number 1000) (f.Add (formula.Variable var.Width1) (f.Mul (formula.Number 1000) (f.Add (formula.Variable var.Width2) (f.Mul (formula.Number 1000) (f.Add (formula.Variable var.Card1) (f.Mul (formula.Number 1000) (f.Add (formula.Variable var.Card2) (f.Mul (formula.Number 1000) (formula.Variable var.One))))))))))) }
+    ∷ record { statement = 11; flavour = flavour.Store; which = which.Cost; formula = (f.Add (formula.Variable var.Cpu) (f.Mul (formula.Number 1000) (f.Add (formula.Variable var.Net) (f.Mul (formula.Number 1000) (f.Add (formula.Variable var.Preds) (f.Mul (formula.Number 1000) (f.Add (formula.Variable var.Rows) (f.Mul (formula.Number 1000) (f.Add (formula.Variable var.Pages) (f.Mul (formula.Number 1000) (formula.Variable var.Card))))))))))) }
+    ∷ record { statement = 12; flavour = flavour.Store; which = which.Rescan; formula = (f.Add (formula.Variable var.Width) (f.Mul (formula.Number 1000) (f.Add (formula.Variable var.Width1) (f.Mul (formula.Number 1000) (f.Add (formula.Variable var.Width2) (f.Mul (formula.Number 1000) (f.Add (formula.Variable var.Card1) (f.Mul (formula.Number 1000) (f.Add (formula.Variable var.Card2) (f.Mul (formula.Number 1000) (formula.Variable var.One))))))))))) }
+    ∷ record { statement = 13; flavour = flavour.Ship; which = which.Cost; formula = (f.Add (formula.Variable var.Cpu) (f.Mul (formula.Number 1000) (f.Add (formula.Variable var.Net) (f.Mul (formula.Number 1000) (f.Add (formula.Variable var.Preds) (f.Mul (formula.Number 1000) (f.Add (formula.Variable var.Rows) (f.Mul (formula.Number 1000) (f.Add (formula.Variable var.Pages) (f.Mul (formula.Number 1000) (formula.Variable var.Card))))))))))) }
+    ∷ record { statement = 14; flavour = flavour.Ship; which = which.Rescan; formula = (f.Add (formula.Variable var.Width) (f.Mul (formula.Number 1000) (f.Add (formula.Variable var.Width1) (f.Mul (formula.Number 1000) (f.Add (formula.Variable var.Width2) (f.Mul (formula.Number 1000) (f.Add (formula.Variable var.Card1) (f.Mul (formula.Number 1000) (f.Add (formula.Variable var.Card2) (f.Mul (formula.Number 1000) (formula.Variable var.One))))))))))) }
+    ∷ record { statement = 15; flavour = flavour.Probe; which = which.Cost; formula = (f.Add (formula.Variable var.Cpu) (f.Mul (formula.Number 1000) (f.Add (formula.Variable var.Net) (f.Mul (formula.Number 1000) (f.Add (formula.Variable var.Preds) (f.Mul (formula.Number 1000) (f.Add (formula.Variable var.Rows) (f.Mul (formula.Number 1000) (f.Add (formula.Variable var.Pages) (f.Mul (formula.Number 1000) (formula.Variable var.Card))))))))))) }
+    ∷ record { statement = 16; flavour = flavour.Probe; which = which.Rescan; formula = (f.Add (formula.Variable var.Width) (f.Mul (formula.Number 1000) (f.Add (formula.Variable var.Width1) (f.Mul (formula.Number 1000) (f.Add (formula.Variable var.Width2) (f.Mul (formula.Number 1000) (f.Add (formula.Variable var.Card1) (f.Mul (formula.Number 1000) (f.Add (formula.Variable var.Card2) (f.Mul (formula.Number 1000) (formula.Variable var.One))))))))))) }
+    ∷ record { statement = 17; flavour = flavour.JoinNl; which = which.Cost; formula = (f.Add (formula.Variable var.Cpu) (f.Mul (formula.Number 1000) (f.Add (formula.Variable var.Net) (f.Mul (formula.Number 1000) (f.Add (formula.Variable var.Preds) (f.Mul (formula.Number 1000) (f.Add (formula.Variable var.Rows) (f.Mul (formula.Number 1000) (f.Add (formula.Variable var.Pages) (f.Mul (formula.Number 1000) (formula.Variable var.Card))))))))))) }
+    ∷ record { statement = 18; flavour = flavour.JoinNl; which = which.Rescan; formula = (f.Add (formula.Variable var.Width) (f.Mul (formula.Number 1000) (f.Add (formula.Variable var.Width1) (f.Mul (formula.Number 1000) (f.Add (formula.Variable var.Width2) (f.Mul (formula.Number 1000) (f.Add (formula.Variable var.Card1) (f.Mul (formula.Number 1000) (f.Add (formula.Variable var.Card2) (f.Mul (formula.Number 1000) (formula.Variable var.One))))))))))) }
+    ∷ record { statement = 19; flavour = flavour.JoinMerge; which = which.Cost; formula = (f.Add (formula.Variable var.Cpu) (f.Mul (formula.Number 1000) (f.Add (formula.Variable var.Net) (f.Mul (formula.Number 1000) (f.Add (formula.Variable var.Preds) (f.Mul (formula.Number 1000) (f.Add (formula.Variable var.Rows) (f.Mul (formula.Number 1000) (f.Add (formula.Variable var.Pages) (f.Mul (formula.Number 1000) (formula.Variable var.Card))))))))))) }
+    ∷ record { statement = 20; flavour = flavour.JoinMerge; which = which.Rescan; formula = (f.Add (formula.Variable var.Width) (f.Mul (formula.Number 1000) (f.Add (formula.Variable var.Width1) (f.Mul (formula.Number 1000) (f.Add (formula.Variable var.Width2) (f.Mul (formula.Number 1000) (f.Add (formula.Variable var.Card1) (f.Mul (formula.Number 1000) (f.Add (formula.Variable var.Card2) (f.Mul (formula.Number 1000) (formula.Variable var.One))))))))))) }
+    ∷ record { statement = 21; flavour = flavour.JoinHash; which = which.Cost; formula = (f.Add (formula.Variable var.Cpu) (f.Mul (formula.Number 1000) (f.Add (formula.Variable var.Net) (f.Mul (formula.Number 1000) (f.Add (formula.Variable var.Preds) (f.Mul (formula.Number 1000) (f.Add (formula.Variable var.Rows) (f.Mul (formula.Number 1000) (f.Add (formula.Variable var.Pages) (f.Mul (formula.Number 1000) (formula.Variable var.Card))))))))))) }
+    ∷ record { statement = 22; flavour = flavour.JoinHash; which = which.Rescan; formula = (f.Add (formula.Variable var.Width) (f.Mul (formula.Number 1000) (f.Add (formula.Variable var.Width1) (f.Mul (formula.Number 1000) (f.Add (formula.Variable var.Width2) (f.Mul (formula.Number 1000) (f.Add (formula.Variable var.Card1) (f.Mul (formula.Number 1000) (f.Add (formula.Variable var.Card2) (f.Mul (formula.Number 1000) (formula.Variable var.One))))))))))) }
+    ∷ []
+
+abbrev pub variables : RuleFile
+variables = record {
+  formulas = formulas_of_variables;
+  stars =
+      record { statement = 23; name = codes "AccessRoot"; params = (record { name = codes "A"; kind = kind.Stream } ∷ record { name = codes "J"; kind = kind.Preds } ∷ []); alternatives = (record { ranges = []; condition = None; body = (plan.Leaf flavour.AccessHeap ((value.Variable (codes "A") 0) ∷ (v.Union (v.Inside (v.Tables (value.Variable (codes "A") 0))) (value.Variable (codes "J") 1)) ∷ [])) } ∷ []) }
+      ∷ record { statement = 24; name = codes "JoinRoot"; params = (record { name = codes "A"; kind = kind.Stream } ∷ record { name = codes "B"; kind = kind.Stream } ∷ record { name = codes "J"; kind = kind.Preds } ∷ []); alternatives = (record { ranges = []; condition = None; body = (e.Binary flavour.JoinNl ((v.Between (v.Tables (value.Variable (codes "A") 0)) (v.Tables (value.Variable (codes "B") 1))) ∷ []) (plan.Glue (value.Variable (codes "A") 0) (value.Variable (codes "J") 2)) (plan.Glue (value.Variable (codes "B") 1) (value.Variable (codes "J") 2))) } ∷ []) }
+      ∷ [];
+}
+
+abbrev pub wide : RuleFile
+wide = record {
+  formulas = formulas_of_tie;
+  stars =
+      record { statement = 9; name = codes "AccessRoot"; params = (record { name = codes "A"; kind = kind.Stream } ∷ record { name = codes "J"; kind = kind.Preds } ∷ []); alternatives = (record { ranges = []; condition = None; body = (plan.Reference (codes "Sb") ((value.Variable (codes "A") 0) ∷ (value.Variable (codes "J") 1) ∷ [])) } ∷ record { ranges = []; condition = None; body = (plan.Reference (codes "Sb") ((value.Variable (codes "A") 0) ∷ (value.Variable (codes "J") 1) ∷ [])) } ∷ record { ranges = []; condition = None; body = (plan.Reference (codes "Sb") ((value.Variable (codes "A") 0) ∷ (value.Variable (codes "J") 1) ∷ [])) } ∷ record { ranges = []; condition = None; body = (plan.Reference (codes "Sb") ((value.Variable (codes "A") 0) ∷ (value.Variable (codes "J") 1) ∷ [])) } ∷ record { ranges = []; condition = None; body = (plan.Reference (codes "Sb") ((value.Variable (codes "A") 0) ∷ (value.Variable (codes "J") 1) ∷ [])) } ∷ record { ranges = []; condition = None; body = (plan.Reference (codes "Sb") ((value.Variable (codes "A") 0) ∷ (value.Variable (codes "J") 1) ∷ [])) } ∷ record { ranges = []; condition = None; body = (plan.Reference (codes "Sb") ((value.Variable (codes "A") 0) ∷ (value.Variable (codes "J") 1) ∷ [])) } ∷ record { ranges = []; condition = None; body = (plan.Reference (codes "Sb") ((value.Variable (codes "A") 0) ∷ (value.Variable (codes "J") 1) ∷ [])) } ∷ record { ranges = []; condition = None; body = (plan.Reference (codes "Sb") ((value.Variable (codes "A") 0) ∷ (value.Variable (codes "J") 1) ∷ [])) } ∷ record { ranges = []; condition = None; body = (plan.Reference (codes "Sb") ((value.Variable (codes "A") 0) ∷ (value.Variable (codes "J") 1) ∷ [])) } ∷ record { ranges = []; condition = None; body = (plan.Reference (codes "Sb") ((value.Variable (codes "A") 0) ∷ (value.Variable (codes "J") 1) ∷ [])) } ∷ record { ranges = []; condition = None; body = (plan.Reference (codes "Sb") ((value.Variable (codes "A") 0) ∷ (value.Variable (codes "J") 1) ∷ [])) } ∷ record { ranges = []; condition = None; body = (plan.Reference (codes "Sb") ((value.Variable (codes "A") 0) ∷ (value.Variable (codes "J") 1) ∷ [])) } ∷ record { ranges = []; condition = None; body = (plan.Reference (codes "Sb") ((value.Variable (codes "A") 0) ∷ (value.Variable (codes "J") 1) ∷ [])) } ∷ record { ranges = []; condition = None; body = (plan.Reference (codes "Sb") ((value.Variable (codes "A") 0) ∷ (value.Variable (codes "J") 1) ∷ [])) } ∷ record { ranges = []; condition = None; body = (plan.Reference (codes "Sc") ((value.Variable (codes "A") 0) ∷ (value.Variable (codes "J") 1) ∷ [])) } ∷ []) }
+      ∷ record { statement = 10; name = codes "JoinRoot"; params = (record { name = codes "A"; kind = kind.Stream } ∷ record { name = codes "B"; kind = kind.Stream } ∷ record { name = codes "J"; kind = kind.Preds } ∷ []); alternatives = (record { ranges = []; condition = None; body = (plan.Leaf flavour.AccessHeap ((value.Variable (codes "A") 0) ∷ (value.Variable (codes "J") 2) ∷ [])) } ∷ []) }
+      ∷ record { statement = 11; name = codes "Sa"; params = (record { name = codes "A"; kind = kind.Stream } ∷ record { name = codes "J"; kind = kind.Preds } ∷ []); alternatives = (record { ranges = []; condition = None; body = (plan.Leaf flavour.AccessHeap ((value.Variable (codes "A") 0) ∷ (value.Variable (codes "J") 1) ∷ [])) } ∷ record { ranges = []; condition = None; body = (plan.Leaf flavour.AccessHeap ((value.Variable (codes "A") 0) ∷ (value.Variable (codes "J") 1) ∷ [])) } ∷ record { ranges = []; condition = None; body = (plan.Leaf flavour.AccessHeap ((value.Variable (codes "A") 0) ∷ (value.Variable (codes "J") 1) ∷ [])) } ∷ record { ranges = []; condition = None; body = (plan.Leaf flavour.AccessHeap ((value.Variable (codes "A") 0) ∷ (value.Variable (codes "J") 1) ∷ [])) } ∷ record { ranges = []; condition = None; body = (plan.Leaf flavour.AccessHeap ((value.Variable (codes "A") 0) ∷ (value.Variable (codes "J") 1) ∷ [])) } ∷ record { ranges = []; condition = None; body = (plan.Leaf flavour.AccessHeap ((value.Variable (codes "A") 0) ∷ (value.Variable (codes "J") 1) ∷ [])) } ∷ record { ranges = []; condition = None; body = (plan.Leaf flavour.AccessHeap ((value.Variable (codes "A") 0) ∷ (value.Variable (codes "J") 1) ∷ [])) } ∷ record { ranges = []; condition = None; body = (plan.Leaf flavour.AccessHeap ((value.Variable (codes "A") 0) ∷ (value.Variable (codes "J") 1) ∷ [])) } ∷ record { ranges = []; condition = None; body = (plan.Leaf flavour.AccessHeap ((value.Variable (codes "A") 0) ∷ (value.Variable (codes "J") 1) ∷ [])) } ∷ record { ranges = []; condition = None; body = (plan.Leaf flavour.AccessHeap ((value.Variable (codes "A") 0) ∷ (value.Variable (codes "J") 1) ∷ [])) } ∷ record { ranges = []; condition = None; body = (plan.Leaf flavour.AccessHeap ((value.Variable (codes "A") 0) ∷ (value.Variable (codes "J") 1) ∷ [])) } ∷ record { ranges = []; condition = None; body = (plan.Leaf flavour.AccessHeap ((value.Variable (codes "A") 0) ∷ (value.Variable (codes "J") 1) ∷ [])) } ∷ record { ranges = []; condition = None; body = (plan.Leaf flavour.AccessHeap ((value.Variable (codes "A") 0) ∷ (value.Variable (codes "J") 1) ∷ [])) } ∷ record { ranges = []; condition = None; body = (plan.Leaf flavour.AccessHeap ((value.Variable (codes "A") 0) ∷ (value.Variable (codes "J") 1) ∷ [])) } ∷ record { ranges = []; condition = None; body = (plan.Leaf flavour.AccessHeap ((value.Variable (codes "A") 0) ∷ (value.Variable (codes "J") 1) ∷ [])) } ∷ []) }
+      ∷ record { statement = 12; name = codes "Sb"; params = (record { name = codes "A"; kind = kind.Stream } ∷ record { name = codes "J"; kind = kind.Preds } ∷ []); alternatives = (record { ranges = []; condition = None; body = (plan.Reference (codes "Sa") ((value.Variable (codes "A") 0) ∷ (value.Variable (codes "J") 1) ∷ [])) } ∷ record { ranges = []; condition = None; body = (plan.Reference (codes "Sa") ((value.Variable (codes "A") 0) ∷ (value.Variable (codes "J") 1) ∷ [])) } ∷ record { ranges = []; condition = None; body = (plan.Reference (codes "Sa") ((value.Variable (codes "A") 0) ∷ (value.Variable (codes "J") 1) ∷ [])) } ∷ record { ranges = []; condition = None; body = (plan.Reference (codes "Sa") ((value.Variable (codes "A") 0) ∷ (value.Variable (codes "J") 1) ∷ [])) } ∷ record { ranges = []; condition = None; body = (plan.Reference (codes "Sa") ((value.Variable (codes "A") 0) ∷ (value.Variable (codes "J") 1) ∷ [])) } ∷ record { ranges = []; condition = None; body = (plan.Reference (codes "Sa") ((value.Variable (codes "A") 0) ∷ (value.Variable (codes "J") 1) ∷ [])) } ∷ record { ranges = []; condition = None; body = (plan.Reference (codes "Sa") ((value.Variable (codes "A") 0) ∷ (value.Variable (codes "J") 1) ∷ [])) } ∷ record { ranges = []; condition = None; body = (plan.Reference (codes "Sa") ((value.Variable (codes "A") 0) ∷ (value.Variable (codes "J") 1) ∷ [])) } ∷ record { ranges = []; condition = None; body = (plan.Reference (codes "Sa") ((value.Variable (codes "A") 0) ∷ (value.Variable (codes "J") 1) ∷ [])) } ∷ record { ranges = []; condition = None; body = (plan.Reference (codes "Sa") ((value.Variable (codes "A") 0) ∷ (value.Variable (codes "J") 1) ∷ [])) } ∷ record { ranges = []; condition = None; body = (plan.Reference (codes "Sa") ((value.Variable (codes "A") 0) ∷ (value.Variable (codes "J") 1) ∷ [])) } ∷ record { ranges = []; condition = None; body = (plan.Reference (codes "Sa") ((value.Variable (codes "A") 0) ∷ (value.Variable (codes "J") 1) ∷ [])) } ∷ record { ranges = []; condition = None; body = (plan.Reference (codes "Sa") ((value.Variable (codes "A") 0) ∷ (value.Variable (codes "J") 1) ∷ [])) } ∷ record { ranges = []; condition = None; body = (plan.Reference (codes "Sa") ((value.Variable (codes "A") 0) ∷ (value.Variable (codes "J") 1) ∷ [])) } ∷ record { ranges = []; condition = None; body = (plan.Reference (codes "Sa") ((value.Variable (codes "A") 0) ∷ (value.Variable (codes "J") 1) ∷ [])) } ∷ record { ranges = []; condition = None; body = (plan.Reference (codes "Sa") ((value.Variable (codes "A") 0) ∷ (value.Variable (codes "J") 1) ∷ [])) } ∷ []) }
+      ∷ record { statement = 13; name = codes "Sc"; params = (record { name = codes "A"; kind = kind.Stream } ∷ record { name = codes "J"; kind = kind.Preds } ∷ []); alternatives = (record { ranges = []; condition = None; body = (plan.Reference (codes "Sa") ((value.Variable (codes "A") 0) ∷ (value.Variable (codes "J") 1) ∷ [])) } ∷ record { ranges = []; condition = None; body = (plan.Reference (codes "Sa") ((value.Variable (codes "A") 0) ∷ (value.Variable (codes "J") 1) ∷ [])) } ∷ record { ranges = []; condition = None; body = (plan.Reference (codes "Sa") ((value.Variable (codes "A") 0) ∷ (value.Variable (codes "J") 1) ∷ [])) } ∷ record { ranges = []; condition = None; body = (plan.Reference (codes "Sa") ((value.Variable (codes "A") 0) ∷ (value.Variable (codes "J") 1) ∷ [])) } ∷ record { ranges = []; condition = None; body = (plan.Reference (codes "Sa") ((value.Variable (codes "A") 0) ∷ (value.Variable (codes "J") 1) ∷ [])) } ∷ record { ranges = []; condition = None; body = (plan.Reference (codes "Sa") ((value.Variable (codes "A") 0) ∷ (value.Variable (codes "J") 1) ∷ [])) } ∷ record { ranges = []; condition = None; body = (plan.Reference (codes "Sa") ((value.Variable (codes "A") 0) ∷ (value.Variable (codes "J") 1) ∷ [])) } ∷ record { ranges = []; condition = None; body = (plan.Reference (codes "Sa") ((value.Variable (codes "A") 0) ∷ (value.Variable (codes "J") 1) ∷ [])) } ∷ record { ranges = []; condition = None; body = (plan.Reference (codes "Sa") ((value.Variable (codes "A") 0) ∷ (value.Variable (codes "J") 1) ∷ [])) } ∷ record { ranges = []; condition = None; body = (plan.Reference (codes "Sa") ((value.Variable (codes "A") 0) ∷ (value.Variable (codes "J") 1) ∷ [])) } ∷ record { ranges = []; condition = None; body = (plan.Reference (codes "Sa") ((value.Variable (codes "A") 0) ∷ (value.Variable (codes "J") 1) ∷ [])) } ∷ record { ranges = []; condition = None; body = (plan.Reference (codes "Sa") ((value.Variable (codes "A") 0) ∷ (value.Variable (codes "J") 1) ∷ [])) } ∷ record { ranges = []; condition = None; body = (plan.Reference (codes "Sa") ((value.Variable (codes "A") 0) ∷ (value.Variable (codes "J") 1) ∷ [])) } ∷ record { ranges = []; condition = None; body = (plan.Reference (codes "Sa") ((value.Variable (codes "A") 0) ∷ (value.Variable (codes "J") 1) ∷ [])) } ∷ record { ranges = []; condition = None; body = (plan.Reference (codes "Sa") ((value.Variable (codes "A") 0) ∷ (value.Variable (codes "J") 1) ∷ [])) } ∷ []) }
+      ∷ [];
+}
+
 abbrev pub cycle : RuleFile
 cycle = record {
-  formulas = formulas_of_tiny;
+  formulas = formulas_of_tie;
   stars =
       record { statement = 9; name = codes "AccessRoot"; params = (record { name = codes "A"; kind = kind.Stream } ∷ record { name = codes "J"; kind = kind.Preds } ∷ []); alternatives = (record { ranges = []; condition = None; body = (plan.Reference (codes "Other") ((value.Variable (codes "A") 0) ∷ (value.Variable (codes "J") 1) ∷ [])) } ∷ []) }
       ∷ record { statement = 10; name = codes "JoinRoot"; params = (record { name = codes "A"; kind = kind.Stream } ∷ record { name = codes "B"; kind = kind.Stream } ∷ record { name = codes "J"; kind = kind.Preds } ∷ []); alternatives = (record { ranges = []; condition = None; body = (plan.Leaf flavour.AccessHeap ((value.Variable (codes "A") 0) ∷ (value.Variable (codes "J") 2) ∷ [])) } ∷ []) }
@@ -143,19 +223,98 @@ cycle = record {
 
 abbrev pub for_all_name : RuleFile
 for_all_name = record {
-  formulas = formulas_of_tiny;
+  formulas = formulas_of_tie;
   stars =
       record { statement = 9; name = codes "AccessRoot"; params = (record { name = codes "A"; kind = kind.Stream } ∷ record { name = codes "J"; kind = kind.Preds } ∷ []); alternatives = (record { ranges = (record { name = codes "J"; range = range.Sites } ∷ []); condition = None; body = (plan.Leaf flavour.AccessHeap ((value.Variable (codes "A") 0) ∷ value.NoPreds ∷ [])) } ∷ []) }
       ∷ record { statement = 10; name = codes "JoinRoot"; params = (record { name = codes "A"; kind = kind.Stream } ∷ record { name = codes "B"; kind = kind.Stream } ∷ record { name = codes "J"; kind = kind.Preds } ∷ []); alternatives = (record { ranges = []; condition = None; body = (plan.Leaf flavour.AccessHeap ((value.Variable (codes "A") 0) ∷ (value.Variable (codes "J") 2) ∷ [])) } ∷ []) }
       ∷ [];
 }
 
+abbrev pub for_all_twice : RuleFile
+for_all_twice = record {
+  formulas = formulas_of_tie;
+  stars =
+      record { statement = 9; name = codes "AccessRoot"; params = (record { name = codes "A"; kind = kind.Stream } ∷ record { name = codes "J"; kind = kind.Preds } ∷ []); alternatives = (record { ranges = []; condition = None; body = (plan.Leaf flavour.AccessHeap ((value.Variable (codes "A") 0) ∷ (value.Variable (codes "J") 1) ∷ [])) } ∷ []) }
+      ∷ record { statement = 10; name = codes "JoinRoot"; params = (record { name = codes "A"; kind = kind.Stream } ∷ record { name = codes "B"; kind = kind.Stream } ∷ record { name = codes "J"; kind = kind.Preds } ∷ []); alternatives = (record { ranges = (record { name = codes "x"; range = range.Sites } ∷ record { name = codes "x"; range = range.Sites } ∷ []); condition = None; body = (plan.Leaf flavour.AccessHeap ((value.Variable (codes "A") 0) ∷ (value.Variable (codes "J") 2) ∷ [])) } ∷ []) }
+      ∷ [];
+}
+
+abbrev pub formulas_of_formula_twice : List FormulaDef
+formulas_of_formula_twice =
+    record { statement = 1; flavour = flavour.AccessHeap; which = which.Cost; formula = (f.Add (f.Mul (formula.Number 10) (formula.Variable var.Pages)) (f.Mul (formula.Variable var.Cpu) (formula.Variable var.Rows))) }
+    ∷ record { statement = 2; flavour = flavour.AccessHeap; which = which.Rescan; formula = (f.Add (f.Mul (formula.Number 10) (formula.Variable var.Pages)) (f.Mul (formula.Variable var.Cpu) (formula.Variable var.Rows))) }
+    ∷ record { statement = 3; flavour = flavour.Sort; which = which.Cost; formula = (f.Add (formula.Variable var.Cost1) (f.Mul (formula.Number 4) (formula.Variable var.Card1))) }
+    ∷ record { statement = 4; flavour = flavour.Sort; which = which.Rescan; formula = (f.Add (formula.Variable var.Rescan1) (f.Mul (formula.Number 4) (formula.Variable var.Card1))) }
+    ∷ record { statement = 5; flavour = flavour.Store; which = which.Cost; formula = (f.Add (formula.Variable var.Cost1) (f.Mul (formula.Number 2) (formula.Variable var.Card1))) }
+    ∷ record { statement = 6; flavour = flavour.Store; which = which.Rescan; formula = (formula.Variable var.Card1) }
+    ∷ record { statement = 7; flavour = flavour.Ship; which = which.Cost; formula = (f.Add (formula.Variable var.Cost1) (f.Mul (f.Mul (formula.Variable var.Net) (formula.Variable var.Card1)) (formula.Variable var.Width1))) }
+    ∷ record { statement = 8; flavour = flavour.Ship; which = which.Rescan; formula = (f.Add (formula.Variable var.Rescan1) (f.Mul (f.Mul (formula.Variable var.Net) (formula.Variable var.Card1)) (formula.Variable var.Width1))) }
+    ∷ record { statement = 11; flavour = flavour.Sort; which = which.Cost; formula = (formula.Number 1) }
+    ∷ []
+
+abbrev pub formula_twice : RuleFile
+formula_twice = record {
+  formulas = formulas_of_formula_twice;
+  stars =
+      record { statement = 9; name = codes "AccessRoot"; params = (record { name = codes "A"; kind = kind.Stream } ∷ record { name = codes "J"; kind = kind.Preds } ∷ []); alternatives = (record { ranges = []; condition = None; body = (plan.Leaf flavour.AccessHeap ((value.Variable (codes "A") 0) ∷ (value.Variable (codes "J") 1) ∷ [])) } ∷ []) }
+      ∷ record { statement = 10; name = codes "JoinRoot"; params = (record { name = codes "A"; kind = kind.Stream } ∷ record { name = codes "B"; kind = kind.Stream } ∷ record { name = codes "J"; kind = kind.Preds } ∷ []); alternatives = (record { ranges = []; condition = None; body = (plan.Leaf flavour.AccessHeap ((value.Variable (codes "A") 0) ∷ (value.Variable (codes "J") 2) ∷ [])) } ∷ []) }
+      ∷ [];
+}
+
 abbrev pub glue_in_access : RuleFile
 glue_in_access = record {
-  formulas = formulas_of_tiny;
+  formulas = formulas_of_tie;
   stars =
       record { statement = 9; name = codes "AccessRoot"; params = (record { name = codes "A"; kind = kind.Stream } ∷ record { name = codes "J"; kind = kind.Preds } ∷ []); alternatives = (record { ranges = []; condition = None; body = (plan.Glue (value.Variable (codes "A") 0) (value.Variable (codes "J") 1)) } ∷ []) }
       ∷ record { statement = 10; name = codes "JoinRoot"; params = (record { name = codes "A"; kind = kind.Stream } ∷ record { name = codes "B"; kind = kind.Stream } ∷ record { name = codes "J"; kind = kind.Preds } ∷ []); alternatives = (record { ranges = []; condition = None; body = (plan.Leaf flavour.AccessHeap ((value.Variable (codes "A") 0) ∷ (value.Variable (codes "J") 2) ∷ [])) } ∷ []) }
+      ∷ [];
+}
+
+abbrev pub formulas_of_no_access_root : List FormulaDef
+formulas_of_no_access_root =
+    []
+
+abbrev pub no_access_root : RuleFile
+no_access_root = record {
+  formulas = formulas_of_no_access_root;
+  stars =
+      [];
+}
+
+abbrev pub no_formula : RuleFile
+no_formula = record {
+  formulas = formulas_of_tie;
+  stars =
+      record { statement = 9; name = codes "AccessRoot"; params = (record { name = codes "A"; kind = kind.Stream } ∷ record { name = codes "J"; kind = kind.Preds } ∷ []); alternatives = (record { ranges = []; condition = None; body = (e.Unary flavour.Filter (value.NoPreds ∷ []) (plan.Leaf flavour.AccessHeap ((value.Variable (codes "A") 0) ∷ (value.Variable (codes "J") 1) ∷ []))) } ∷ []) }
+      ∷ record { statement = 10; name = codes "JoinRoot"; params = (record { name = codes "A"; kind = kind.Stream } ∷ record { name = codes "B"; kind = kind.Stream } ∷ record { name = codes "J"; kind = kind.Preds } ∷ []); alternatives = (record { ranges = []; condition = None; body = (plan.Leaf flavour.AccessHeap ((value.Variable (codes "A") 0) ∷ (value.Variable (codes "J") 2) ∷ [])) } ∷ []) }
+      ∷ [];
+}
+
+abbrev pub no_join_root : RuleFile
+no_join_root = record {
+  formulas = formulas_of_tie;
+  stars =
+      record { statement = 9; name = codes "AccessRoot"; params = (record { name = codes "A"; kind = kind.Stream } ∷ record { name = codes "J"; kind = kind.Preds } ∷ []); alternatives = (record { ranges = []; condition = None; body = (plan.Leaf flavour.AccessHeap ((value.Variable (codes "A") 0) ∷ (value.Variable (codes "J") 1) ∷ [])) } ∷ []) }
+      ∷ [];
+}
+
+abbrev pub formulas_of_no_rescan : List FormulaDef
+formulas_of_no_rescan =
+    record { statement = 1; flavour = flavour.AccessHeap; which = which.Cost; formula = (f.Add (f.Mul (formula.Number 10) (formula.Variable var.Pages)) (f.Mul (formula.Variable var.Cpu) (formula.Variable var.Rows))) }
+    ∷ record { statement = 2; flavour = flavour.AccessHeap; which = which.Rescan; formula = (f.Add (f.Mul (formula.Number 10) (formula.Variable var.Pages)) (f.Mul (formula.Variable var.Cpu) (formula.Variable var.Rows))) }
+    ∷ record { statement = 3; flavour = flavour.Sort; which = which.Cost; formula = (f.Add (formula.Variable var.Cost1) (f.Mul (formula.Number 4) (formula.Variable var.Card1))) }
+    ∷ record { statement = 4; flavour = flavour.Sort; which = which.Rescan; formula = (f.Add (formula.Variable var.Rescan1) (f.Mul (formula.Number 4) (formula.Variable var.Card1))) }
+    ∷ record { statement = 5; flavour = flavour.Store; which = which.Cost; formula = (f.Add (formula.Variable var.Cost1) (f.Mul (formula.Number 2) (formula.Variable var.Card1))) }
+    ∷ record { statement = 6; flavour = flavour.Ship; which = which.Cost; formula = (f.Add (formula.Variable var.Cost1) (f.Mul (f.Mul (formula.Variable var.Net) (formula.Variable var.Card1)) (formula.Variable var.Width1))) }
+    ∷ record { statement = 7; flavour = flavour.Ship; which = which.Rescan; formula = (f.Add (formula.Variable var.Rescan1) (f.Mul (f.Mul (formula.Variable var.Net) (formula.Variable var.Card1)) (formula.Variable var.Width1))) }
+    ∷ []
+
+abbrev pub no_rescan : RuleFile
+no_rescan = record {
+  formulas = formulas_of_no_rescan;
+  stars =
+      record { statement = 8; name = codes "AccessRoot"; params = (record { name = codes "A"; kind = kind.Stream } ∷ record { name = codes "J"; kind = kind.Preds } ∷ []); alternatives = (record { ranges = []; condition = None; body = (plan.Leaf flavour.AccessHeap ((value.Variable (codes "A") 0) ∷ (value.Variable (codes "J") 1) ∷ [])) } ∷ []) }
+      ∷ record { statement = 9; name = codes "JoinRoot"; params = (record { name = codes "A"; kind = kind.Stream } ∷ record { name = codes "B"; kind = kind.Stream } ∷ record { name = codes "J"; kind = kind.Preds } ∷ []); alternatives = (record { ranges = []; condition = None; body = (plan.Leaf flavour.AccessHeap ((value.Variable (codes "A") 0) ∷ (value.Variable (codes "J") 2) ∷ [])) } ∷ []) }
       ∷ [];
 }
 
@@ -180,18 +339,104 @@ not_monotone = record {
       ∷ [];
 }
 
+abbrev pub formulas_of_rescan_not_monotone : List FormulaDef
+formulas_of_rescan_not_monotone =
+    record { statement = 1; flavour = flavour.AccessHeap; which = which.Cost; formula = (f.Add (f.Mul (formula.Number 10) (formula.Variable var.Pages)) (f.Mul (formula.Variable var.Cpu) (formula.Variable var.Rows))) }
+    ∷ record { statement = 2; flavour = flavour.AccessHeap; which = which.Rescan; formula = (f.Add (f.Mul (formula.Number 10) (formula.Variable var.Pages)) (f.Mul (formula.Variable var.Cpu) (formula.Variable var.Rows))) }
+    ∷ record { statement = 3; flavour = flavour.Sort; which = which.Cost; formula = (f.Add (formula.Variable var.Cost1) (f.Mul (formula.Number 4) (formula.Variable var.Card1))) }
+    ∷ record { statement = 4; flavour = flavour.Sort; which = which.Rescan; formula = (f.Div (formula.Number 1) (formula.Variable var.Rescan1)) }
+    ∷ record { statement = 5; flavour = flavour.Store; which = which.Cost; formula = (f.Add (formula.Variable var.Cost1) (f.Mul (formula.Number 2) (formula.Variable var.Card1))) }
+    ∷ record { statement = 6; flavour = flavour.Store; which = which.Rescan; formula = (formula.Variable var.Card1) }
+    ∷ record { statement = 7; flavour = flavour.Ship; which = which.Cost; formula = (f.Add (formula.Variable var.Cost1) (f.Mul (f.Mul (formula.Variable var.Net) (formula.Variable var.Card1)) (formula.Variable var.Width1))) }
+    ∷ record { statement = 8; flavour = flavour.Ship; which = which.Rescan; formula = (f.Add (formula.Variable var.Rescan1) (f.Mul (f.Mul (formula.Variable var.Net) (formula.Variable var.Card1)) (formula.Variable var.Width1))) }
+    ∷ []
+
+abbrev pub rescan_not_monotone : RuleFile
+rescan_not_monotone = record {
+  formulas = formulas_of_rescan_not_monotone;
+  stars =
+      record { statement = 9; name = codes "AccessRoot"; params = (record { name = codes "A"; kind = kind.Stream } ∷ record { name = codes "J"; kind = kind.Preds } ∷ []); alternatives = (record { ranges = []; condition = None; body = (plan.Leaf flavour.AccessHeap ((value.Variable (codes "A") 0) ∷ (value.Variable (codes "J") 1) ∷ [])) } ∷ []) }
+      ∷ record { statement = 10; name = codes "JoinRoot"; params = (record { name = codes "A"; kind = kind.Stream } ∷ record { name = codes "B"; kind = kind.Stream } ∷ record { name = codes "J"; kind = kind.Preds } ∷ []); alternatives = (record { ranges = []; condition = None; body = (plan.Leaf flavour.AccessHeap ((value.Variable (codes "A") 0) ∷ (value.Variable (codes "J") 2) ∷ [])) } ∷ []) }
+      ∷ [];
+}
+
 abbrev pub same_names : RuleFile
 same_names = record {
-  formulas = formulas_of_tiny;
+  formulas = formulas_of_tie;
   stars =
       record { statement = 9; name = codes "AccessRoot"; params = (record { name = codes "A"; kind = kind.Stream } ∷ record { name = codes "A"; kind = kind.Preds } ∷ []); alternatives = (record { ranges = []; condition = None; body = (plan.Leaf flavour.AccessHeap ((value.Variable (codes "A") 0) ∷ (value.Variable (codes "A") 0) ∷ [])) } ∷ []) }
       ∷ record { statement = 10; name = codes "JoinRoot"; params = (record { name = codes "A"; kind = kind.Stream } ∷ record { name = codes "B"; kind = kind.Stream } ∷ record { name = codes "J"; kind = kind.Preds } ∷ []); alternatives = (record { ranges = []; condition = None; body = (plan.Leaf flavour.AccessHeap ((value.Variable (codes "A") 0) ∷ (value.Variable (codes "J") 2) ∷ [])) } ∷ []) }
       ∷ [];
 }
 
+abbrev pub star_twice : RuleFile
+star_twice = record {
+  formulas = formulas_of_tie;
+  stars =
+      record { statement = 9; name = codes "AccessRoot"; params = (record { name = codes "A"; kind = kind.Stream } ∷ record { name = codes "J"; kind = kind.Preds } ∷ []); alternatives = (record { ranges = []; condition = None; body = (plan.Leaf flavour.AccessHeap ((value.Variable (codes "A") 0) ∷ (value.Variable (codes "J") 1) ∷ [])) } ∷ []) }
+      ∷ record { statement = 10; name = codes "JoinRoot"; params = (record { name = codes "A"; kind = kind.Stream } ∷ record { name = codes "B"; kind = kind.Stream } ∷ record { name = codes "J"; kind = kind.Preds } ∷ []); alternatives = (record { ranges = []; condition = None; body = (plan.Leaf flavour.AccessHeap ((value.Variable (codes "A") 0) ∷ (value.Variable (codes "J") 2) ∷ [])) } ∷ []) }
+      ∷ record { statement = 11; name = codes "AccessRoot"; params = (record { name = codes "A"; kind = kind.Stream } ∷ record { name = codes "J"; kind = kind.Preds } ∷ []); alternatives = (record { ranges = []; condition = None; body = (plan.Leaf flavour.AccessHeap ((value.Variable (codes "A") 0) ∷ (value.Variable (codes "J") 1) ∷ [])) } ∷ []) }
+      ∷ [];
+}
+
+abbrev pub too_tall : RuleFile
+too_tall = record {
+  formulas = formulas_of_tie;
+  stars =
+      record { statement = 9; name = codes "AccessRoot"; params = (record { name = codes "A"; kind = kind.Stream } ∷ record { name = codes "J"; kind = kind.Preds } ∷ []); alternatives = (record { ranges = []; condition = None; body = (plan.Reference (codes "H2") ((value.Variable (codes "A") 0) ∷ (value.Variable (codes "J") 1) ∷ [])) } ∷ []) }
+      ∷ record { statement = 10; name = codes "JoinRoot"; params = (record { name = codes "A"; kind = kind.Stream } ∷ record { name = codes "B"; kind = kind.Stream } ∷ record { name = codes "J"; kind = kind.Preds } ∷ []); alternatives = (record { ranges = []; condition = None; body = (plan.Leaf flavour.AccessHeap ((value.Variable (codes "A") 0) ∷ (value.Variable (codes "J") 2) ∷ [])) } ∷ []) }
+      ∷ record { statement = 11; name = codes "H2"; params = (record { name = codes "A"; kind = kind.Stream } ∷ record { name = codes "J"; kind = kind.Preds } ∷ []); alternatives = (record { ranges = []; condition = None; body = (plan.Reference (codes "H3") ((value.Variable (codes "A") 0) ∷ (value.Variable (codes "J") 1) ∷ [])) } ∷ []) }
+      ∷ record { statement = 12; name = codes "H3"; params = (record { name = codes "A"; kind = kind.Stream } ∷ record { name = codes "J"; kind = kind.Preds } ∷ []); alternatives = (record { ranges = []; condition = None; body = (plan.Reference (codes "H4") ((value.Variable (codes "A") 0) ∷ (value.Variable (codes "J") 1) ∷ [])) } ∷ []) }
+      ∷ record { statement = 13; name = codes "H4"; params = (record { name = codes "A"; kind = kind.Stream } ∷ record { name = codes "J"; kind = kind.Preds } ∷ []); alternatives = (record { ranges = []; condition = None; body = (plan.Reference (codes "H5") ((value.Variable (codes "A") 0) ∷ (value.Variable (codes "J") 1) ∷ [])) } ∷ []) }
+      ∷ record { statement = 14; name = codes "H5"; params = (record { name = codes "A"; kind = kind.Stream } ∷ record { name = codes "J"; kind = kind.Preds } ∷ []); alternatives = (record { ranges = []; condition = None; body = (plan.Reference (codes "H6") ((value.Variable (codes "A") 0) ∷ (value.Variable (codes "J") 1) ∷ [])) } ∷ []) }
+      ∷ record { statement = 15; name = codes "H6"; params = (record { name = codes "A"; kind = kind.Stream } ∷ record { name = codes "J"; kind = kind.Preds } ∷ []); alternatives = (record { ranges = []; condition = None; body = (plan.Reference (codes "H7") ((value.Variable (codes "A") 0) ∷ (value.Variable (codes "J") 1) ∷ [])) } ∷ []) }
+      ∷ record { statement = 16; name = codes "H7"; params = (record { name = codes "A"; kind = kind.Stream } ∷ record { name = codes "J"; kind = kind.Preds } ∷ []); alternatives = (record { ranges = []; condition = None; body = (plan.Reference (codes "H8") ((value.Variable (codes "A") 0) ∷ (value.Variable (codes "J") 1) ∷ [])) } ∷ []) }
+      ∷ record { statement = 17; name = codes "H8"; params = (record { name = codes "A"; kind = kind.Stream } ∷ record { name = codes "J"; kind = kind.Preds } ∷ []); alternatives = (record { ranges = []; condition = None; body = (plan.Reference (codes "H9") ((value.Variable (codes "A") 0) ∷ (value.Variable (codes "J") 1) ∷ [])) } ∷ []) }
+      ∷ record { statement = 18; name = codes "H9"; params = (record { name = codes "A"; kind = kind.Stream } ∷ record { name = codes "J"; kind = kind.Preds } ∷ []); alternatives = (record { ranges = []; condition = None; body = (plan.Reference (codes "H10") ((value.Variable (codes "A") 0) ∷ (value.Variable (codes "J") 1) ∷ [])) } ∷ []) }
+      ∷ record { statement = 19; name = codes "H10"; params = (record { name = codes "A"; kind = kind.Stream } ∷ record { name = codes "J"; kind = kind.Preds } ∷ []); alternatives = (record { ranges = []; condition = None; body = (plan.Reference (codes "H11") ((value.Variable (codes "A") 0) ∷ (value.Variable (codes "J") 1) ∷ [])) } ∷ []) }
+      ∷ record { statement = 20; name = codes "H11"; params = (record { name = codes "A"; kind = kind.Stream } ∷ record { name = codes "J"; kind = kind.Preds } ∷ []); alternatives = (record { ranges = []; condition = None; body = (plan.Reference (codes "H12") ((value.Variable (codes "A") 0) ∷ (value.Variable (codes "J") 1) ∷ [])) } ∷ []) }
+      ∷ record { statement = 21; name = codes "H12"; params = (record { name = codes "A"; kind = kind.Stream } ∷ record { name = codes "J"; kind = kind.Preds } ∷ []); alternatives = (record { ranges = []; condition = None; body = (plan.Reference (codes "H13") ((value.Variable (codes "A") 0) ∷ (value.Variable (codes "J") 1) ∷ [])) } ∷ []) }
+      ∷ record { statement = 22; name = codes "H13"; params = (record { name = codes "A"; kind = kind.Stream } ∷ record { name = codes "J"; kind = kind.Preds } ∷ []); alternatives = (record { ranges = []; condition = None; body = (plan.Reference (codes "H14") ((value.Variable (codes "A") 0) ∷ (value.Variable (codes "J") 1) ∷ [])) } ∷ []) }
+      ∷ record { statement = 23; name = codes "H14"; params = (record { name = codes "A"; kind = kind.Stream } ∷ record { name = codes "J"; kind = kind.Preds } ∷ []); alternatives = (record { ranges = []; condition = None; body = (plan.Reference (codes "H15") ((value.Variable (codes "A") 0) ∷ (value.Variable (codes "J") 1) ∷ [])) } ∷ []) }
+      ∷ record { statement = 24; name = codes "H15"; params = (record { name = codes "A"; kind = kind.Stream } ∷ record { name = codes "J"; kind = kind.Preds } ∷ []); alternatives = (record { ranges = []; condition = None; body = (plan.Reference (codes "H16") ((value.Variable (codes "A") 0) ∷ (value.Variable (codes "J") 1) ∷ [])) } ∷ []) }
+      ∷ record { statement = 25; name = codes "H16"; params = (record { name = codes "A"; kind = kind.Stream } ∷ record { name = codes "J"; kind = kind.Preds } ∷ []); alternatives = (record { ranges = []; condition = None; body = (plan.Reference (codes "H17") ((value.Variable (codes "A") 0) ∷ (value.Variable (codes "J") 1) ∷ [])) } ∷ []) }
+      ∷ record { statement = 26; name = codes "H17"; params = (record { name = codes "A"; kind = kind.Stream } ∷ record { name = codes "J"; kind = kind.Preds } ∷ []); alternatives = (record { ranges = []; condition = None; body = (plan.Leaf flavour.AccessHeap ((value.Variable (codes "A") 0) ∷ (value.Variable (codes "J") 1) ∷ [])) } ∷ []) }
+      ∷ [];
+}
+
+abbrev pub too_wide : RuleFile
+too_wide = record {
+  formulas = formulas_of_tie;
+  stars =
+      record { statement = 9; name = codes "AccessRoot"; params = (record { name = codes "A"; kind = kind.Stream } ∷ record { name = codes "J"; kind = kind.Preds } ∷ []); alternatives = (record { ranges = []; condition = None; body = (plan.Reference (codes "Sb") ((value.Variable (codes "A") 0) ∷ (value.Variable (codes "J") 1) ∷ [])) } ∷ record { ranges = []; condition = None; body = (plan.Reference (codes "Sb") ((value.Variable (codes "A") 0) ∷ (value.Variable (codes "J") 1) ∷ [])) } ∷ record { ranges = []; condition = None; body = (plan.Reference (codes "Sb") ((value.Variable (codes "A") 0) ∷ (value.Variable (codes "J") 1) ∷ [])) } ∷ record { ranges = []; condition = None; body = (plan.Reference (codes "Sb") ((value.Variable (codes "A") 0) ∷ (value.Variable (codes "J") 1) ∷ [])) } ∷ record { ranges = []; condition = None; body = (plan.Reference (codes "Sb") ((value.Variable (codes "A") 0) ∷ (value.Variable (codes "J") 1) ∷ [])) } ∷ record { ranges = []; condition = None; body = (plan.Reference (codes "Sb") ((value.Variable (codes "A") 0) ∷ (value.Variable (codes "J") 1) ∷ [])) } ∷ record { ranges = []; condition = None; body = (plan.Reference (codes "Sb") ((value.Variable (codes "A") 0) ∷ (value.Variable (codes "J") 1) ∷ [])) } ∷ record { ranges = []; condition = None; body = (plan.Reference (codes "Sb") ((value.Variable (codes "A") 0) ∷ (value.Variable (codes "J") 1) ∷ [])) } ∷ record { ranges = []; condition = None; body = (plan.Reference (codes "Sb") ((value.Variable (codes "A") 0) ∷ (value.Variable (codes "J") 1) ∷ [])) } ∷ record { ranges = []; condition = None; body = (plan.Reference (codes "Sb") ((value.Variable (codes "A") 0) ∷ (value.Variable (codes "J") 1) ∷ [])) } ∷ record { ranges = []; condition = None; body = (plan.Reference (codes "Sb") ((value.Variable (codes "A") 0) ∷ (value.Variable (codes "J") 1) ∷ [])) } ∷ record { ranges = []; condition = None; body = (plan.Reference (codes "Sb") ((value.Variable (codes "A") 0) ∷ (value.Variable (codes "J") 1) ∷ [])) } ∷ record { ranges = []; condition = None; body = (plan.Reference (codes "Sb") ((value.Variable (codes "A") 0) ∷ (value.Variable (codes "J") 1) ∷ [])) } ∷ record { ranges = []; condition = None; body = (plan.Reference (codes "Sb") ((value.Variable (codes "A") 0) ∷ (value.Variable (codes "J") 1) ∷ [])) } ∷ record { ranges = []; condition = None; body = (plan.Reference (codes "Sb") ((value.Variable (codes "A") 0) ∷ (value.Variable (codes "J") 1) ∷ [])) } ∷ record { ranges = []; condition = None; body = (plan.Reference (codes "Sc") ((value.Variable (codes "A") 0) ∷ (value.Variable (codes "J") 1) ∷ [])) } ∷ []) }
+      ∷ record { statement = 10; name = codes "JoinRoot"; params = (record { name = codes "A"; kind = kind.Stream } ∷ record { name = codes "B"; kind = kind.Stream } ∷ record { name = codes "J"; kind = kind.Preds } ∷ []); alternatives = (record { ranges = []; condition = None; body = (plan.Leaf flavour.AccessHeap ((value.Variable (codes "A") 0) ∷ (value.Variable (codes "J") 2) ∷ [])) } ∷ []) }
+      ∷ record { statement = 11; name = codes "Sa"; params = (record { name = codes "A"; kind = kind.Stream } ∷ record { name = codes "J"; kind = kind.Preds } ∷ []); alternatives = (record { ranges = []; condition = None; body = (plan.Leaf flavour.AccessHeap ((value.Variable (codes "A") 0) ∷ (value.Variable (codes "J") 1) ∷ [])) } ∷ record { ranges = []; condition = None; body = (plan.Leaf flavour.AccessHeap ((value.Variable (codes "A") 0) ∷ (value.Variable (codes "J") 1) ∷ [])) } ∷ record { ranges = []; condition = None; body = (plan.Leaf flavour.AccessHeap ((value.Variable (codes "A") 0) ∷ (value.Variable (codes "J") 1) ∷ [])) } ∷ record { ranges = []; condition = None; body = (plan.Leaf flavour.AccessHeap ((value.Variable (codes "A") 0) ∷ (value.Variable (codes "J") 1) ∷ [])) } ∷ record { ranges = []; condition = None; body = (plan.Leaf flavour.AccessHeap ((value.Variable (codes "A") 0) ∷ (value.Variable (codes "J") 1) ∷ [])) } ∷ record { ranges = []; condition = None; body = (plan.Leaf flavour.AccessHeap ((value.Variable (codes "A") 0) ∷ (value.Variable (codes "J") 1) ∷ [])) } ∷ record { ranges = []; condition = None; body = (plan.Leaf flavour.AccessHeap ((value.Variable (codes "A") 0) ∷ (value.Variable (codes "J") 1) ∷ [])) } ∷ record { ranges = []; condition = None; body = (plan.Leaf flavour.AccessHeap ((value.Variable (codes "A") 0) ∷ (value.Variable (codes "J") 1) ∷ [])) } ∷ record { ranges = []; condition = None; body = (plan.Leaf flavour.AccessHeap ((value.Variable (codes "A") 0) ∷ (value.Variable (codes "J") 1) ∷ [])) } ∷ record { ranges = []; condition = None; body = (plan.Leaf flavour.AccessHeap ((value.Variable (codes "A") 0) ∷ (value.Variable (codes "J") 1) ∷ [])) } ∷ record { ranges = []; condition = None; body = (plan.Leaf flavour.AccessHeap ((value.Variable (codes "A") 0) ∷ (value.Variable (codes "J") 1) ∷ [])) } ∷ record { ranges = []; condition = None; body = (plan.Leaf flavour.AccessHeap ((value.Variable (codes "A") 0) ∷ (value.Variable (codes "J") 1) ∷ [])) } ∷ record { ranges = []; condition = None; body = (plan.Leaf flavour.AccessHeap ((value.Variable (codes "A") 0) ∷ (value.Variable (codes "J") 1) ∷ [])) } ∷ record { ranges = []; condition = None; body = (plan.Leaf flavour.AccessHeap ((value.Variable (codes "A") 0) ∷ (value.Variable (codes "J") 1) ∷ [])) } ∷ record { ranges = []; condition = None; body = (plan.Leaf flavour.AccessHeap ((value.Variable (codes "A") 0) ∷ (value.Variable (codes "J") 1) ∷ [])) } ∷ []) }
+      ∷ record { statement = 12; name = codes "Sb"; params = (record { name = codes "A"; kind = kind.Stream } ∷ record { name = codes "J"; kind = kind.Preds } ∷ []); alternatives = (record { ranges = []; condition = None; body = (plan.Reference (codes "Sa") ((value.Variable (codes "A") 0) ∷ (value.Variable (codes "J") 1) ∷ [])) } ∷ record { ranges = []; condition = None; body = (plan.Reference (codes "Sa") ((value.Variable (codes "A") 0) ∷ (value.Variable (codes "J") 1) ∷ [])) } ∷ record { ranges = []; condition = None; body = (plan.Reference (codes "Sa") ((value.Variable (codes "A") 0) ∷ (value.Variable (codes "J") 1) ∷ [])) } ∷ record { ranges = []; condition = None; body = (plan.Reference (codes "Sa") ((value.Variable (codes "A") 0) ∷ (value.Variable (codes "J") 1) ∷ [])) } ∷ record { ranges = []; condition = None; body = (plan.Reference (codes "Sa") ((value.Variable (codes "A") 0) ∷ (value.Variable (codes "J") 1) ∷ [])) } ∷ record { ranges = []; condition = None; body = (plan.Reference (codes "Sa") ((value.Variable (codes "A") 0) ∷ (value.Variable (codes "J") 1) ∷ [])) } ∷ record { ranges = []; condition = None; body = (plan.Reference (codes "Sa") ((value.Variable (codes "A") 0) ∷ (value.Variable (codes "J") 1) ∷ [])) } ∷ record { ranges = []; condition = None; body = (plan.Reference (codes "Sa") ((value.Variable (codes "A") 0) ∷ (value.Variable (codes "J") 1) ∷ [])) } ∷ record { ranges = []; condition = None; body = (plan.Reference (codes "Sa") ((value.Variable (codes "A") 0) ∷ (value.Variable (codes "J") 1) ∷ [])) } ∷ record { ranges = []; condition = None; body = (plan.Reference (codes "Sa") ((value.Variable (codes "A") 0) ∷ (value.Variable (codes "J") 1) ∷ [])) } ∷ record { ranges = []; condition = None; body = (plan.Reference (codes "Sa") ((value.Variable (codes "A") 0) ∷ (value.Variable (codes "J") 1) ∷ [])) } ∷ record { ranges = []; condition = None; body = (plan.Reference (codes "Sa") ((value.Variable (codes "A") 0) ∷ (value.Variable (codes "J") 1) ∷ [])) } ∷ record { ranges = []; condition = None; body = (plan.Reference (codes "Sa") ((value.Variable (codes "A") 0) ∷ (value.Variable (codes "J") 1) ∷ [])) } ∷ record { ranges = []; condition = None; body = (plan.Reference (codes "Sa") ((value.Variable (codes "A") 0) ∷ (value.Variable (codes "J") 1) ∷ [])) } ∷ record { ranges = []; condition = None; body = (plan.Reference (codes "Sa") ((value.Variable (codes "A") 0) ∷ (value.Variable (codes "J") 1) ∷ [])) } ∷ record { ranges = []; condition = None; body = (plan.Reference (codes "Sa") ((value.Variable (codes "A") 0) ∷ (value.Variable (codes "J") 1) ∷ [])) } ∷ []) }
+      ∷ record { statement = 13; name = codes "Sc"; params = (record { name = codes "A"; kind = kind.Stream } ∷ record { name = codes "J"; kind = kind.Preds } ∷ []); alternatives = (record { ranges = []; condition = None; body = (plan.Reference (codes "Sa") ((value.Variable (codes "A") 0) ∷ (value.Variable (codes "J") 1) ∷ [])) } ∷ record { ranges = []; condition = None; body = (plan.Reference (codes "Sa") ((value.Variable (codes "A") 0) ∷ (value.Variable (codes "J") 1) ∷ [])) } ∷ record { ranges = []; condition = None; body = (plan.Reference (codes "Sa") ((value.Variable (codes "A") 0) ∷ (value.Variable (codes "J") 1) ∷ [])) } ∷ record { ranges = []; condition = None; body = (plan.Reference (codes "Sa") ((value.Variable (codes "A") 0) ∷ (value.Variable (codes "J") 1) ∷ [])) } ∷ record { ranges = []; condition = None; body = (plan.Reference (codes "Sa") ((value.Variable (codes "A") 0) ∷ (value.Variable (codes "J") 1) ∷ [])) } ∷ record { ranges = []; condition = None; body = (plan.Reference (codes "Sa") ((value.Variable (codes "A") 0) ∷ (value.Variable (codes "J") 1) ∷ [])) } ∷ record { ranges = []; condition = None; body = (plan.Reference (codes "Sa") ((value.Variable (codes "A") 0) ∷ (value.Variable (codes "J") 1) ∷ [])) } ∷ record { ranges = []; condition = None; body = (plan.Reference (codes "Sa") ((value.Variable (codes "A") 0) ∷ (value.Variable (codes "J") 1) ∷ [])) } ∷ record { ranges = []; condition = None; body = (plan.Reference (codes "Sa") ((value.Variable (codes "A") 0) ∷ (value.Variable (codes "J") 1) ∷ [])) } ∷ record { ranges = []; condition = None; body = (plan.Reference (codes "Sa") ((value.Variable (codes "A") 0) ∷ (value.Variable (codes "J") 1) ∷ [])) } ∷ record { ranges = []; condition = None; body = (plan.Reference (codes "Sa") ((value.Variable (codes "A") 0) ∷ (value.Variable (codes "J") 1) ∷ [])) } ∷ record { ranges = []; condition = None; body = (plan.Reference (codes "Sa") ((value.Variable (codes "A") 0) ∷ (value.Variable (codes "J") 1) ∷ [])) } ∷ record { ranges = []; condition = None; body = (plan.Reference (codes "Sa") ((value.Variable (codes "A") 0) ∷ (value.Variable (codes "J") 1) ∷ [])) } ∷ record { ranges = []; condition = None; body = (plan.Reference (codes "Sa") ((value.Variable (codes "A") 0) ∷ (value.Variable (codes "J") 1) ∷ [])) } ∷ record { ranges = []; condition = None; body = (plan.Reference (codes "Sa") ((value.Variable (codes "A") 0) ∷ (value.Variable (codes "J") 1) ∷ [])) } ∷ record { ranges = []; condition = None; body = (plan.Leaf flavour.AccessHeap ((value.Variable (codes "A") 0) ∷ (value.Variable (codes "J") 1) ∷ [])) } ∷ []) }
+      ∷ [];
+}
+
+abbrev pub unknown_in_condition : RuleFile
+unknown_in_condition = record {
+  formulas = formulas_of_tie;
+  stars =
+      record { statement = 9; name = codes "AccessRoot"; params = (record { name = codes "A"; kind = kind.Stream } ∷ record { name = codes "J"; kind = kind.Preds } ∷ []); alternatives = (record { ranges = []; condition = None; body = (plan.Leaf flavour.AccessHeap ((value.Variable (codes "A") 0) ∷ (value.Variable (codes "J") 1) ∷ [])) } ∷ []) }
+      ∷ record { statement = 10; name = codes "JoinRoot"; params = (record { name = codes "A"; kind = kind.Stream } ∷ record { name = codes "B"; kind = kind.Stream } ∷ record { name = codes "J"; kind = kind.Preds } ∷ []); alternatives = (record { ranges = []; condition = Some (condition.Empty (value.Variable (codes "K") 255)); body = (plan.Leaf flavour.AccessHeap ((value.Variable (codes "A") 0) ∷ (value.Variable (codes "J") 2) ∷ [])) } ∷ []) }
+      ∷ [];
+}
+
+abbrev pub unknown_in_range : RuleFile
+unknown_in_range = record {
+  formulas = formulas_of_tie;
+  stars =
+      record { statement = 9; name = codes "AccessRoot"; params = (record { name = codes "A"; kind = kind.Stream } ∷ record { name = codes "J"; kind = kind.Preds } ∷ []); alternatives = (record { ranges = []; condition = None; body = (plan.Leaf flavour.AccessHeap ((value.Variable (codes "A") 0) ∷ (value.Variable (codes "J") 1) ∷ [])) } ∷ []) }
+      ∷ record { statement = 10; name = codes "JoinRoot"; params = (record { name = codes "A"; kind = kind.Stream } ∷ record { name = codes "B"; kind = kind.Stream } ∷ record { name = codes "J"; kind = kind.Preds } ∷ []); alternatives = (record { ranges = (record { name = codes "x"; range = range.Indexes (value.Variable (codes "x") 255) } ∷ []); condition = None; body = (plan.Leaf flavour.AccessHeap ((value.Variable (codes "A") 0) ∷ (value.Variable (codes "J") 2) ∷ [])) } ∷ []) }
+      ∷ [];
+}
+
 abbrev pub unknown_name : RuleFile
 unknown_name = record {
-  formulas = formulas_of_tiny;
+  formulas = formulas_of_tie;
   stars =
       record { statement = 9; name = codes "AccessRoot"; params = (record { name = codes "A"; kind = kind.Stream } ∷ record { name = codes "J"; kind = kind.Preds } ∷ []); alternatives = (record { ranges = []; condition = None; body = (plan.Leaf flavour.AccessHeap ((value.Variable (codes "A") 0) ∷ (value.Variable (codes "K") 255) ∷ [])) } ∷ []) }
       ∷ record { statement = 10; name = codes "JoinRoot"; params = (record { name = codes "A"; kind = kind.Stream } ∷ record { name = codes "B"; kind = kind.Stream } ∷ record { name = codes "J"; kind = kind.Preds } ∷ []); alternatives = (record { ranges = []; condition = None; body = (plan.Leaf flavour.AccessHeap ((value.Variable (codes "A") 0) ∷ (value.Variable (codes "J") 2) ∷ [])) } ∷ []) }
@@ -200,7 +445,7 @@ unknown_name = record {
 
 abbrev pub unknown_star : RuleFile
 unknown_star = record {
-  formulas = formulas_of_tiny;
+  formulas = formulas_of_tie;
   stars =
       record { statement = 9; name = codes "AccessRoot"; params = (record { name = codes "A"; kind = kind.Stream } ∷ record { name = codes "J"; kind = kind.Preds } ∷ []); alternatives = (record { ranges = []; condition = None; body = (plan.Reference (codes "Other") ((value.Variable (codes "A") 0) ∷ (value.Variable (codes "J") 1) ∷ [])) } ∷ []) }
       ∷ record { statement = 10; name = codes "JoinRoot"; params = (record { name = codes "A"; kind = kind.Stream } ∷ record { name = codes "B"; kind = kind.Stream } ∷ record { name = codes "J"; kind = kind.Preds } ∷ []); alternatives = (record { ranges = []; condition = None; body = (plan.Leaf flavour.AccessHeap ((value.Variable (codes "A") 0) ∷ (value.Variable (codes "J") 2) ∷ [])) } ∷ []) }
@@ -209,18 +454,110 @@ unknown_star = record {
 
 abbrev pub wrong_count : RuleFile
 wrong_count = record {
-  formulas = formulas_of_tiny;
+  formulas = formulas_of_tie;
   stars =
       record { statement = 9; name = codes "AccessRoot"; params = (record { name = codes "A"; kind = kind.Stream } ∷ []); alternatives = (record { ranges = []; condition = None; body = (plan.Leaf flavour.AccessHeap ((value.Variable (codes "A") 0) ∷ value.NoPreds ∷ [])) } ∷ []) }
       ∷ record { statement = 10; name = codes "JoinRoot"; params = (record { name = codes "A"; kind = kind.Stream } ∷ record { name = codes "B"; kind = kind.Stream } ∷ record { name = codes "J"; kind = kind.Preds } ∷ []); alternatives = (record { ranges = []; condition = None; body = (plan.Leaf flavour.AccessHeap ((value.Variable (codes "A") 0) ∷ (value.Variable (codes "J") 2) ∷ [])) } ∷ []) }
       ∷ [];
 }
 
+abbrev pub wrong_count_of_arguments : RuleFile
+wrong_count_of_arguments = record {
+  formulas = formulas_of_tie;
+  stars =
+      record { statement = 9; name = codes "AccessRoot"; params = (record { name = codes "A"; kind = kind.Stream } ∷ record { name = codes "J"; kind = kind.Preds } ∷ []); alternatives = (record { ranges = []; condition = None; body = (plan.Reference (codes "Other") ((value.Variable (codes "A") 0) ∷ [])) } ∷ []) }
+      ∷ record { statement = 10; name = codes "JoinRoot"; params = (record { name = codes "A"; kind = kind.Stream } ∷ record { name = codes "B"; kind = kind.Stream } ∷ record { name = codes "J"; kind = kind.Preds } ∷ []); alternatives = (record { ranges = []; condition = None; body = (plan.Leaf flavour.AccessHeap ((value.Variable (codes "A") 0) ∷ (value.Variable (codes "J") 2) ∷ [])) } ∷ []) }
+      ∷ record { statement = 11; name = codes "Other"; params = (record { name = codes "A"; kind = kind.Stream } ∷ record { name = codes "J"; kind = kind.Preds } ∷ []); alternatives = (record { ranges = []; condition = None; body = (plan.Leaf flavour.AccessHeap ((value.Variable (codes "A") 0) ∷ (value.Variable (codes "J") 1) ∷ [])) } ∷ []) }
+      ∷ [];
+}
+
+abbrev pub wrong_count_of_join : RuleFile
+wrong_count_of_join = record {
+  formulas = formulas_of_tie;
+  stars =
+      record { statement = 9; name = codes "AccessRoot"; params = (record { name = codes "A"; kind = kind.Stream } ∷ record { name = codes "J"; kind = kind.Preds } ∷ []); alternatives = (record { ranges = []; condition = None; body = (plan.Leaf flavour.AccessHeap ((value.Variable (codes "A") 0) ∷ (value.Variable (codes "J") 1) ∷ [])) } ∷ []) }
+      ∷ record { statement = 10; name = codes "JoinRoot"; params = (record { name = codes "A"; kind = kind.Stream } ∷ record { name = codes "J"; kind = kind.Preds } ∷ []); alternatives = (record { ranges = []; condition = None; body = (plan.Leaf flavour.AccessHeap ((value.Variable (codes "A") 0) ∷ (value.Variable (codes "J") 1) ∷ [])) } ∷ []) }
+      ∷ [];
+}
+
 abbrev pub wrong_kind : RuleFile
 wrong_kind = record {
-  formulas = formulas_of_tiny;
+  formulas = formulas_of_tie;
   stars =
       record { statement = 9; name = codes "AccessRoot"; params = (record { name = codes "A"; kind = kind.Stream } ∷ record { name = codes "J"; kind = kind.Preds } ∷ []); alternatives = (record { ranges = []; condition = None; body = (plan.Leaf flavour.AccessHeap ((value.Variable (codes "A") 0) ∷ (value.Variable (codes "A") 0) ∷ [])) } ∷ []) }
       ∷ record { statement = 10; name = codes "JoinRoot"; params = (record { name = codes "A"; kind = kind.Stream } ∷ record { name = codes "B"; kind = kind.Stream } ∷ record { name = codes "J"; kind = kind.Preds } ∷ []); alternatives = (record { ranges = []; condition = None; body = (plan.Leaf flavour.AccessHeap ((value.Variable (codes "A") 0) ∷ (value.Variable (codes "J") 2) ∷ [])) } ∷ []) }
+      ∷ [];
+}
+
+abbrev pub wrong_kind_in_condition : RuleFile
+wrong_kind_in_condition = record {
+  formulas = formulas_of_tie;
+  stars =
+      record { statement = 9; name = codes "AccessRoot"; params = (record { name = codes "A"; kind = kind.Stream } ∷ record { name = codes "J"; kind = kind.Preds } ∷ []); alternatives = (record { ranges = []; condition = None; body = (plan.Leaf flavour.AccessHeap ((value.Variable (codes "A") 0) ∷ (value.Variable (codes "J") 1) ∷ [])) } ∷ []) }
+      ∷ record { statement = 10; name = codes "JoinRoot"; params = (record { name = codes "A"; kind = kind.Stream } ∷ record { name = codes "B"; kind = kind.Stream } ∷ record { name = codes "J"; kind = kind.Preds } ∷ []); alternatives = (record { ranges = []; condition = Some (condition.Single (value.Variable (codes "A") 0)); body = (plan.Leaf flavour.AccessHeap ((value.Variable (codes "A") 0) ∷ (value.Variable (codes "J") 2) ∷ [])) } ∷ []) }
+      ∷ [];
+}
+
+abbrev pub wrong_kind_in_glue : RuleFile
+wrong_kind_in_glue = record {
+  formulas = formulas_of_tie;
+  stars =
+      record { statement = 9; name = codes "AccessRoot"; params = (record { name = codes "A"; kind = kind.Stream } ∷ record { name = codes "J"; kind = kind.Preds } ∷ []); alternatives = (record { ranges = []; condition = None; body = (plan.Leaf flavour.AccessHeap ((value.Variable (codes "A") 0) ∷ (value.Variable (codes "J") 1) ∷ [])) } ∷ []) }
+      ∷ record { statement = 10; name = codes "JoinRoot"; params = (record { name = codes "A"; kind = kind.Stream } ∷ record { name = codes "B"; kind = kind.Stream } ∷ record { name = codes "J"; kind = kind.Preds } ∷ []); alternatives = (record { ranges = []; condition = None; body = (plan.Glue (value.Variable (codes "J") 2) (value.Variable (codes "J") 2)) } ∷ []) }
+      ∷ [];
+}
+
+abbrev pub wrong_kind_in_range : RuleFile
+wrong_kind_in_range = record {
+  formulas = formulas_of_tie;
+  stars =
+      record { statement = 9; name = codes "AccessRoot"; params = (record { name = codes "A"; kind = kind.Stream } ∷ record { name = codes "J"; kind = kind.Preds } ∷ []); alternatives = (record { ranges = []; condition = None; body = (plan.Leaf flavour.AccessHeap ((value.Variable (codes "A") 0) ∷ (value.Variable (codes "J") 1) ∷ [])) } ∷ []) }
+      ∷ record { statement = 10; name = codes "JoinRoot"; params = (record { name = codes "A"; kind = kind.Stream } ∷ record { name = codes "B"; kind = kind.Stream } ∷ record { name = codes "J"; kind = kind.Preds } ∷ []); alternatives = (record { ranges = (record { name = codes "x"; range = range.Indexes (value.Variable (codes "J") 2) } ∷ []); condition = None; body = (plan.Leaf flavour.AccessHeap ((value.Variable (codes "A") 0) ∷ (value.Variable (codes "J") 2) ∷ [])) } ∷ []) }
+      ∷ [];
+}
+
+abbrev pub wrong_kind_of_argument : RuleFile
+wrong_kind_of_argument = record {
+  formulas = formulas_of_tie;
+  stars =
+      record { statement = 9; name = codes "AccessRoot"; params = (record { name = codes "A"; kind = kind.Stream } ∷ record { name = codes "J"; kind = kind.Preds } ∷ []); alternatives = (record { ranges = []; condition = None; body = (plan.Reference (codes "Other") ((value.Variable (codes "J") 1) ∷ (value.Variable (codes "J") 1) ∷ [])) } ∷ []) }
+      ∷ record { statement = 10; name = codes "JoinRoot"; params = (record { name = codes "A"; kind = kind.Stream } ∷ record { name = codes "B"; kind = kind.Stream } ∷ record { name = codes "J"; kind = kind.Preds } ∷ []); alternatives = (record { ranges = []; condition = None; body = (plan.Leaf flavour.AccessHeap ((value.Variable (codes "A") 0) ∷ (value.Variable (codes "J") 2) ∷ [])) } ∷ []) }
+      ∷ record { statement = 11; name = codes "Other"; params = (record { name = codes "A"; kind = kind.Stream } ∷ record { name = codes "J"; kind = kind.Preds } ∷ []); alternatives = (record { ranges = []; condition = None; body = (plan.Leaf flavour.AccessHeap ((value.Variable (codes "A") 0) ∷ (value.Variable (codes "J") 1) ∷ [])) } ∷ []) }
+      ∷ [];
+}
+
+abbrev pub wrong_kind_of_bracket : RuleFile
+wrong_kind_of_bracket = record {
+  formulas = formulas_of_tie;
+  stars =
+      record { statement = 9; name = codes "AccessRoot"; params = (record { name = codes "A"; kind = kind.Stream } ∷ record { name = codes "J"; kind = kind.Preds } ∷ []); alternatives = (record { ranges = []; condition = None; body = (plan.Leaf flavour.AccessHeap ((value.Variable (codes "A") 0) ∷ (value.Variable (codes "J") 1) ∷ [])) } ∷ []) }
+      ∷ record { statement = 10; name = codes "JoinRoot"; params = (record { name = codes "A"; kind = kind.Stream } ∷ record { name = codes "B"; kind = kind.Stream } ∷ record { name = codes "J"; kind = kind.Preds } ∷ []); alternatives = (record { ranges = []; condition = None; body = (plan.Glue (v.WithOrder (value.Variable (codes "A") 0) (value.Variable (codes "J") 2)) (value.Variable (codes "J") 2)) } ∷ []) }
+      ∷ [];
+}
+
+abbrev pub wrong_kind_of_join : RuleFile
+wrong_kind_of_join = record {
+  formulas = formulas_of_tie;
+  stars =
+      record { statement = 9; name = codes "AccessRoot"; params = (record { name = codes "A"; kind = kind.Stream } ∷ record { name = codes "J"; kind = kind.Preds } ∷ []); alternatives = (record { ranges = []; condition = None; body = (plan.Leaf flavour.AccessHeap ((value.Variable (codes "A") 0) ∷ (value.Variable (codes "J") 1) ∷ [])) } ∷ []) }
+      ∷ record { statement = 10; name = codes "JoinRoot"; params = (record { name = codes "A"; kind = kind.Stream } ∷ record { name = codes "B"; kind = kind.Quants } ∷ record { name = codes "J"; kind = kind.Preds } ∷ []); alternatives = (record { ranges = []; condition = None; body = (plan.Leaf flavour.AccessHeap ((value.Variable (codes "A") 0) ∷ value.NoPreds ∷ [])) } ∷ []) }
+      ∷ [];
+}
+
+abbrev pub wrong_kind_of_root : RuleFile
+wrong_kind_of_root = record {
+  formulas = formulas_of_tie;
+  stars =
+      record { statement = 9; name = codes "AccessRoot"; params = (record { name = codes "A"; kind = kind.Stream } ∷ record { name = codes "J"; kind = kind.Cols } ∷ []); alternatives = (record { ranges = []; condition = None; body = (plan.Leaf flavour.AccessHeap ((value.Variable (codes "A") 0) ∷ value.NoPreds ∷ [])) } ∷ []) }
+      ∷ record { statement = 10; name = codes "JoinRoot"; params = (record { name = codes "A"; kind = kind.Stream } ∷ record { name = codes "B"; kind = kind.Stream } ∷ record { name = codes "J"; kind = kind.Preds } ∷ []); alternatives = (record { ranges = []; condition = None; body = (plan.Leaf flavour.AccessHeap ((value.Variable (codes "A") 0) ∷ (value.Variable (codes "J") 2) ∷ [])) } ∷ []) }
+      ∷ [];
+}
+
+abbrev pub wrong_kind_of_set : RuleFile
+wrong_kind_of_set = record {
+  formulas = formulas_of_tie;
+  stars =
+      record { statement = 9; name = codes "AccessRoot"; params = (record { name = codes "A"; kind = kind.Stream } ∷ record { name = codes "J"; kind = kind.Preds } ∷ []); alternatives = (record { ranges = []; condition = None; body = (plan.Leaf flavour.AccessHeap ((value.Variable (codes "A") 0) ∷ (value.Variable (codes "J") 1) ∷ [])) } ∷ []) }
+      ∷ record { statement = 10; name = codes "JoinRoot"; params = (record { name = codes "A"; kind = kind.Stream } ∷ record { name = codes "B"; kind = kind.Stream } ∷ record { name = codes "J"; kind = kind.Preds } ∷ []); alternatives = (record { ranges = []; condition = None; body = (plan.Leaf flavour.AccessHeap ((value.Variable (codes "A") 0) ∷ (v.Union (value.Variable (codes "J") 2) (v.Tables (value.Variable (codes "A") 0))) ∷ [])) } ∷ []) }
       ∷ [];
 }
