@@ -43,7 +43,6 @@ DEFINITIONS = {
     "Judging": [
         ("node_count", "Deriv", "node_count_cases"),
         ("judge", "Deriv", "judge_cases"),
-        ("judge_root", "Deriv", "judge_root_cases"),
     ],
     "Accepted": [
         ("values_in", "PlanExpr", "values_in_cases"),
@@ -238,91 +237,105 @@ def in_module(text, indent_names, binders):
     return text
 
 
-def equations(file, definitions):
-    text = (CRATE / f"specs/{file}.antt").read_text()
-    body, rulesets, heads, types = [], [], [], set()
-    local = re.findall(r"^  (?:unfoldable pub|abbrev pub|pub record|pub data) ([\w-]+)", text, re.M)
-    for name, type_, ruleset in definitions:
-        types.add(type_)
-        module = TYPES[type_][0]
-        binders, args, clauses = definition(text, name)
-        at = args.index(type_)
-        made = "made" if len({t for _, t, _ in definitions}) == 1 else f"made_{TYPES[type_][1][:-5].lower()}"
-        heads.append((type_, made))
-        names = []
-        for vname, vparts in variants(type_):
-            clause = None
-            for patterns_, right in clauses:
-                pattern = patterns_[at]
-                head = pattern.strip("()").split()[0].split(".")[-1]
-                if head == vname or re.fullmatch(r"[a-z_]\w*", pattern):
-                    clause = (patterns_, right, head == vname)
-                    break
-            if clause is None:
-                sys.exit(f"{name} has no case {vname}")
-            patterns_, right, exact = clause
-            part_names = atoms(patterns_[at].strip("()"))[1:] if exact else []
-            if not exact:
-                part_names = [f"p{i}" for i in range(1, len(vparts) + 1)]
-            variables, out_args = [], []
-            for i, (pattern, arg) in enumerate(zip(patterns_, args)):
-                if i == at:
-                    for x, p in zip(part_names, vparts):
-                        variables.append((x, seen(p, type_)))
-                    row = " ".join([f"{made}.{vname}"] + part_names)
-                    out_args.append(f"({row})" if part_names else row)
-                else:
-                    x = pattern if pattern != "_" else f"x{i}"
-                    variables.append((x, arg))
-                    out_args.append(x)
-            right = in_module(right, local, binders) if binders else right
-            all_ = binders + variables
-            left = " ".join([name] + [n for n, _ in binders] + out_args)
-            signature = " ".join(f"({n} : {t})" for n, t in all_) + (" → " if all_ else "")
-            opens = f"unfolding {name}" + (f" hidden-the_row-{type_}-0 hidden" if any(b for _, b in vparts) else "")
-            row = " ".join([f"{name}-{vname}"] + [n for n, _ in all_])
-            right = right if re.fullmatch(r"[\w.]+|\[\]", right) else f"({right})"
-            body += [f"pub {name}-{vname} : {signature}{left} ≡ {right}", opens, f"{row} = refl", ""]
-            names.append(f"{name}-{vname}")
-        rulesets.append(f"pub ruleset {ruleset} = ({', '.join(names)})")
-    whole = "\n".join(body)
-    used = words(whole)
-    lines = [
-        HEAD + f"-- What the definitions of {file} are of the values that code makes, for proofs about code.",
-        "use denote.Hole.Carrier.{hidden}",
-    ]
-    for type_, made in dict.fromkeys(heads):
-        path = f"{MODULE}.declared.{TYPES[type_][0]}.{type_}"
-        lines += [f"use {path}.TheBlock.{{hidden-the_row-{type_}-0}}", f"use {path}.TheVariants as {made}"]
-    basic = [w for w in BASIC if w in ("◌≡◌", "refl") or w in used]
-    lines.insert(1, f"use Rattle.std.specs.Prelude.{{{', '.join(basic)}}}")
-    imported = set(basic)
+def covering(clauses, at, variant):
+    """The first clause that covers the variant, and whether it names it."""
+    for patterns_, right in clauses:
+        pattern = patterns_[at]
+        if pattern.strip("()").split()[0].split(".")[-1] == variant:
+            return patterns_, right, True
+        if re.fullmatch(r"[a-z_]\w*", pattern):
+            return patterns_, right, False
+    sys.exit(f"no case {variant}")
+
+
+def equation(name, type_, made, variant, whole, local):
+    """The lemma that says what the definition is of the variant."""
+    binders, args, clauses = whole
+    vname, vparts = variant
+    at = args.index(type_)
+    patterns_, right, named = covering(clauses, at, vname)
+    part_names = atoms(patterns_[at].strip("()"))[1:] if named else [f"p{i}" for i in range(1, len(vparts) + 1)]
+    variables, on_left = [], []
+    for i, (pattern, arg) in enumerate(zip(patterns_, args)):
+        if i == at:
+            variables += [(x, seen(p, type_)) for x, p in zip(part_names, vparts)]
+            row = " ".join([f"{made}.{vname}"] + part_names)
+            on_left.append(f"({row})" if part_names else row)
+        else:
+            variables.append((pattern if pattern != "_" else f"x{i}", arg))
+            on_left.append(variables[-1][0])
+    all_ = binders + variables
+    right = in_module(right, local, binders) if binders else right
+    right = right if re.fullmatch(r"[\w.]+|\[\]", right) else f"({right})"
+    signature = " ".join(f"({n} : {t})" for n, t in all_) + (" → " if all_ else "")
+    left = " ".join([name] + [n for n, _ in binders] + on_left)
+    opens = f"unfolding {name}" + (f" hidden-the_row-{type_}-0 hidden" if any(b for _, b in vparts) else "")
+    row = " ".join([f"{name}-{vname}"] + [n for n, _ in all_])
+    return [f"pub {name}-{vname} : {signature}{left} ≡ {right}", opens, f"{row} = refl", ""]
+
+
+def kept_imports(text, used, whole):
+    """Of a file's imports those that the lemmas use, and the names that they bring."""
+    lines, names = [], set()
     for line in text.splitlines():
         found = re.fullmatch(r"(?:pub )?use ([\w.-]+)\.\{(.*)\}", line)
         if found:
             items = [w.strip() for w in found[2].split(",")]
             keep = [w for w in items if w not in BASIC and (w.split(" as ")[-1] in used or operator_in(w, used))]
-            imported |= {w.split(" as ")[-1] for w in keep}
+            names |= {w.split(" as ")[-1] for w in keep}
             if keep:
                 lines.append(f"use {found[1]}.{{{', '.join(keep)}}}")
             continue
         found = re.fullmatch(r"use ([\w.-]+) as (\w+)", line)
         if found and re.search(rf"(?<![\w-]){found[2]}\.", whole):
             lines.append(line)
-            imported.add(found[2])
-    own = [n for n in re.findall(r"^ *(?:unfoldable pub|abbrev pub|pub record|pub data) ([\w-]+)", text, re.M) if n in used]
-    constructors = [n for n in re.findall(r"^  ([A-Z]\w*) : .*→ \w+$", text, re.M) if n in used and n not in imported]
-    lines.append(f"use {MODULE}.{file}.{{{', '.join(dict.fromkeys(own + constructors))}}}")
+            names.add(found[2])
+    return lines, names
+
+
+def part_imports(types, names, used, whole):
+    """The imports of the types of parts that are not there yet."""
+    lines = []
     for type_ in sorted(types):
         for wanted in imports([p for v in variants(type_) for p in v[1]], type_):
             what = wanted.split(".{")[-1].rstrip("}") if ".{" in wanted else wanted.split(" as ")[-1]
-            if what not in imported and (what in used or re.search(rf"(?<![\w-]){what}\.", whole)):
+            if what not in names and (what in used or re.search(rf"(?<![\w-]){what}\.", whole)):
                 lines.append(wanted)
-                imported.add(what)
-        if type_ not in imported:
+                names.add(what)
+        if type_ not in names:
             lines.append(f"use {MODULE}.declared.{TYPES[type_][0]}.{type_}.{{{type_}}}")
-            imported.add(type_)
-    (CRATE / f"specs/{file}Equations.antt").write_text("\n".join(lines) + "\n\n" + whole + "\n" + "\n\n".join(rulesets) + "\n")
+            names.add(type_)
+    return lines
+
+
+def equations(file, definitions):
+    text = (CRATE / f"specs/{file}.antt").read_text()
+    local = re.findall(r"^  (?:unfoldable pub|abbrev pub|pub record|pub data) ([\w-]+)", text, re.M)
+    types = dict.fromkeys(type_ for _, type_, _ in definitions)
+    made = {t: "made" if len(types) == 1 else f"made_{TYPES[t][1][:-5].lower()}" for t in types}
+    body, rulesets = [], []
+    for name, type_, ruleset in definitions:
+        for variant in variants(type_):
+            body += equation(name, type_, made[type_], variant, definition(text, name), local)
+        rulesets.append(f"pub ruleset {ruleset} = ({', '.join(f'{name}-{v[0]}' for v in variants(type_))})")
+    whole = "\n".join(body)
+    used = words(whole)
+    basic = [w for w in BASIC if w in ("◌≡◌", "refl") or w in used]
+    lines = [
+        HEAD + f"-- What the definitions of {file} are of the values that code makes, for proofs about code.",
+        f"use Rattle.std.specs.Prelude.{{{', '.join(basic)}}}",
+        "use denote.Hole.Carrier.{hidden}",
+    ]
+    for type_ in types:
+        path = f"{MODULE}.declared.{TYPES[type_][0]}.{type_}"
+        lines += [f"use {path}.TheBlock.{{hidden-the_row-{type_}-0}}", f"use {path}.TheVariants as {made[type_]}"]
+    kept, names = kept_imports(text, used, whole)
+    names |= set(basic)
+    own = [n for n in re.findall(r"^ *(?:unfoldable pub|abbrev pub|pub record|pub data) ([\w-]+)", text, re.M) if n in used]
+    own += [n for n in re.findall(r"^  ([A-Z]\w*) : .*→ \w+$", text, re.M) if n in used and n not in names]
+    lines += kept + [f"use {MODULE}.{file}.{{{', '.join(dict.fromkeys(own))}}}"] + part_imports(types, names, used, whole)
+    rows = "\n".join(lines) + "\n\n" + whole + "\n" + "\n\n".join(rulesets) + "\n"
+    (CRATE / f"specs/{file}Equations.antt").write_text(rows)
 
 
 def operator_in(word, used):

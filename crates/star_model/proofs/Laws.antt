@@ -1,5 +1,5 @@
 -- The laws that other crates may cite. Each is the clause of a function of the module `theorems`.
-use Rattle.std.proofs.Common.{◌≡◌, ℕ, ◌<◌, Bool, true, false, not, ◌||◌, refl, ◌↔◌}
+use Rattle.std.proofs.Common.{◌≡◌, ℕ, ◌<◌, Bool, true, false, not, ◌||◌, refl, sym, ◌↔◌}
 use Rattle.std.specs.Prelude.{Some}
 pub use Rattle.star_model.proofs.NumberLaws.{sum-cut, difference-cut, product-cut, quotient-cut, sum-le, difference-le, product-le, quotient-le, sum-exact, difference-exact, product-exact, quotient-exact, quotient_enough, quotient_least}
 pub use Rattle.star_model.proofs.SetLaws.{has-union, has-meet, has-minus, has-single, has-set_of, has-above, same_set, union-lt, meet-lt, minus-lt, single-lt, set_of-lt}
@@ -12,13 +12,15 @@ pub use Rattle.star_model.proofs.ChainLaws.{step_card, vector_card, chains_excha
 pub use Rattle.star_model.proofs.KindLaws.{means}
 pub use Rattle.star_model.proofs.CostLaws.{formula_of-push}
 use Rattle.star_model.proofs.SetLaws.{within-has, has-within}
+use Rattle.star_model.proofs.InvalidLaws.{first}
 use Rattle.star_model.proofs.JudgeLaws.{judged, valid_from, valid_to, vector_from, vector_to, root_from, root_to}
 use Rattle.star_model.specs.Sets.{has, is_within}
 use Rattle.star_model.specs.Plans.{vector}
 use Rattle.star_model.specs.Costs.{costs_of}
-use Rattle.star_model.specs.Expected.{Expected}
+use Rattle.star_model.specs.Expected.{Expected, ForQuery}
 use Rattle.star_model.specs.Derivations.{plan_of, is_valid, HasVector, IsRoot}
-use Rattle.star_model.specs.Judging.{Vector, judge, judge_root}
+use Rattle.star_model.specs.Judging.{Vector, judge, judge_root, invalid_number}
+use Rattle.star_model.specs.InvalidNodes.{first_invalid}
 use Rattle.star_model.specs.declared.query.Query.{Query}
 use Rattle.star_model.specs.declared.plans.Props.{Props}
 use Rattle.star_model.specs.declared.plans.Plan.{Plan}
@@ -53,4 +55,10 @@ pub judges_valid : (q : Query) (rules : RuleFile) (d : Deriv) (x : Expected) (n 
 judges_valid q rules d x n = (valid_to q rules d x n, (λ h. valid_from q rules d x n h.0 h.1))
 
 pub judges_root : (q : Query) (rules : RuleFile) (tree : Deriv) (v : Props) → (judge_root q rules tree ≡ Vector v) ↔ IsRoot q rules tree v
-judges_root q rules tree v = (root_from q rules tree v, root_to q rules tree v)
+judges_root q rules tree v = (
+  (λ h. root_from q rules tree v (vector_from q rules tree ForQuery 1 v h)),
+  (λ h. vector_to q rules tree ForQuery 1 v (root_to q rules tree v h)),
+)
+
+pub judges_first : (q : Query) (rules : RuleFile) (d : Deriv) (x : Expected) (n : ℕ) → invalid_number (judge q rules d x n) ≡ first_invalid q rules d x n
+judges_first q rules d x n = sym (first q rules d x n)

@@ -18,7 +18,7 @@ use Rattle.star_model.specs.declared.derivations.Deriv.{Deriv}
 module _ (q : Query) (rules : RuleFile) where
   -- the plan of a tree that stands against x: its operators, without goals and references
   unfoldable pub plan_of : Deriv → Expected → Option Plan
-  plan_of (Glue chain d) x = option_and_then (λ g. option_and_then (λ p. Some (chain_over g.0 chain p)) (plan_of d g.1)) (as_glue q x)
+  plan_of (Glue chain d) x = option_and_then (λ g. option_and_then (λ p. Some (chain_over g.0 chain p)) (plan_of d g.1)) (as_glue q chain x)
   plan_of (Goal g split d) x = option_and_then (plan_of d) (goal_body g split x)
   plan_of (Reference star k picks d) x = option_and_then (plan_of d) (reference_body q rules star k picks x)
   plan_of (Leaf f) x = option_and_then (λ o. Some (plan.Leaf o)) (as_leaf q f x)
@@ -35,7 +35,7 @@ module _ (q : Query) (rules : RuleFile) where
   -- whether the tree is valid against x: its top fits, the trees below are valid, and its plan has a vector; that of a Glue
   -- satisfies the requirement, and that of a goal has the goal's target
   unfoldable pub is_valid : Deriv → Expected → Bool
-  is_valid (Glue chain d) x = if_fits (as_glue q x) (λ g. is_chain g.0 chain && is_valid d g.1 && plan_passes (λ w. satisfies w g.0) (plan_of (Glue chain d) x))
+  is_valid (Glue chain d) x = if_fits (as_glue q chain x) (λ g. is_valid d g.1 && plan_passes (λ w. satisfies w g.0) (plan_of (Glue chain d) x))
   is_valid (Goal g split d) x = if_fits (goal_body g split x) (λ y. is_valid d y && plan_passes (is_target q g.tables g.pushed) (plan_of (Goal g split d) x))
   is_valid (Reference star k picks d) x = if_fits (reference_body q rules star k picks x) (is_valid d)
   is_valid (Leaf f) x = plan_passes (λ v. true) (plan_of (Leaf f) x)

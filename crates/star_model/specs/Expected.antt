@@ -6,11 +6,13 @@ use Rattle.star_model.specs.Costs.{same_flavour}
 use Rattle.star_model.specs.Predicates.{crossing, all_quants}
 use Rattle.star_model.specs.Vectors.{same_numbers}
 use Rattle.star_model.specs.Meaning.{meaning, numbers_of, member_at, holds, as_stream, as_preds, as_cols, as_site, as_index, plain}
+use Rattle.star_model.specs.Plans.{is_chain}
 use Rattle.star_model.specs.Stars.{alternative_of}
 use Rattle.star_model.specs.PlanExprCases as expr
 use Rattle.star_model.specs.declared.query.Query.{Query}
 use Rattle.star_model.specs.declared.plans.Require.{Require}
 use Rattle.star_model.specs.declared.plans.Goal as goal
+use Rattle.star_model.specs.declared.plans.GlueOp.{GlueOp}
 use Rattle.star_model.specs.declared.plans.Op.{Op}
 use Rattle.star_model.specs.declared.plans.Op.TheVariants as op
 use Rattle.star_model.specs.declared.rules.Flavour.{Flavour}
@@ -23,30 +25,38 @@ use Rattle.star_model.specs.declared.rules.RuleFile.{RuleFile}
 use Rattle.star_model.specs.declared.values.RuleValue.{RuleValue}
 use Rattle.star_model.specs.declared.values.RuleValue.TheVariants as is
 
--- what a node stands against: a plan expression under bindings, a goal, or a reference to a STAR with the values of its arguments
+-- what a node stands against: the query, a goal, a reference to a STAR with the values of its arguments, or a plan expression under
+-- bindings
 pub data Expected : Type 0 where
-  Expression : (e : PlanExpr) (b : List RuleValue) → Expected
+  ForQuery : Expected
   ForGoal : (tables pushed : ℕ) → Expected
   Call : (star : List ℕ) (b : List RuleValue) → Expected
+  Expression : (e : PlanExpr) (b : List RuleValue) → Expected
 
 abbrev pub values_of : Query → List RuleValue → List ValueExpr → List RuleValue
 values_of q b args = map (meaning q b) args
 
--- ---- a Glue node: a requirement, and a goal for the quantifiers of a stream, of whose predicates those count that cross
+-- ---- a Glue node: a requirement, and a goal
 
-abbrev pub goal_of : Query → ℕ → ℕ → Expected
-goal_of q s preds = ForGoal s (meet preds (crossing q s))
+-- the query's order and site, and all its quantifiers and no predicates
+abbrev pub root_requirement : Query → Require
+root_requirement q = record { order = q.order; site = q.site; temp = false; path = [] }
 
-abbrev pub as_glue : Query → Expected → Option (Require × Expected)
-as_glue q (Expression (expr.Glue t p) b) = let s = as_stream (meaning q b t) in Some (s.require, goal_of q s.tables (as_preds (meaning q b p)))
-as_glue q _ = None
-
--- what a whole derivation is a Glue over, and what it has to satisfy
 abbrev pub query_goal : Query → Expected
 query_goal q = ForGoal (all_quants q) 0
 
-abbrev pub root_requirement : Query → Require
-root_requirement q = record { order = q.order; site = q.site; temp = false; path = [] }
+-- the quantifiers of a stream, and those of the predicates that touch them and others
+abbrev pub goal_of : Query → ℕ → ℕ → Expected
+goal_of q s preds = ForGoal s (meet preds (crossing q s))
+
+abbrev pub glue_of : Query → Expected → Option (Require × Expected)
+glue_of q ForQuery = Some (root_requirement q, query_goal q)
+glue_of q (Expression (expr.Glue t p) b) = let s = as_stream (meaning q b t) in Some (s.require, goal_of q s.tables (as_preds (meaning q b p)))
+glue_of q _ = None
+
+-- the requirement, with what the goal node stands against; none where the node doesn't fit, as with another chain
+abbrev pub as_glue : Query → List GlueOp → Expected → Option (Require × Expected)
+as_glue q chain x = option_and_then (λ g. if is_chain g.0 chain then Some g else None) (glue_of q x)
 
 -- ---- a goal node: its goal, a split, and a reference to one of the two root STARs, with streams that require nothing
 

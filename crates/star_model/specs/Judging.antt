@@ -3,9 +3,9 @@ use Rattle.std.specs.Prelude.{◌≡◌, Result, Ok, Err, ℕ, ◌+◌, Bool, if
 use Rattle.star_model.specs.Costs.{costs_of}
 use Rattle.star_model.specs.Vectors.{satisfies}
 use Rattle.star_model.specs.Operators.{step}
-use Rattle.star_model.specs.Plans.{is_chain, chain_vector}
+use Rattle.star_model.specs.Plans.{chain_vector}
 use Rattle.star_model.specs.Goals.{is_target}
-use Rattle.star_model.specs.Expected.{Expected, as_glue, goal_body, reference_body, as_leaf, as_unary, as_binary, query_goal, root_requirement}
+use Rattle.star_model.specs.Expected.{Expected, ForQuery, as_glue, goal_body, reference_body, as_leaf, as_unary, as_binary}
 use Rattle.star_model.specs.DerivCases.{Glue, Goal, Reference, Leaf, Unary, Binary}
 use Rattle.star_model.specs.declared.query.Query.{Query}
 use Rattle.star_model.specs.declared.plans.Props.{Props}
@@ -47,9 +47,7 @@ module _ (q : Query) (rules : RuleFile) where
   -- of a tree that stands against x, and whose top is node n
   unfoldable pub judge : Deriv → Expected → ℕ → Judgement
   judge (Glue chain d) x n =
-      fitting n (as_glue q x) (λ g. if is_chain g.0 chain then
-      if_valid (judge d g.1 (n + 1)) (λ v. vector_or n (option_and_then (only_if (λ w. satisfies w g.0)) (chain_vector q (costs_of rules) g.0 chain v)))
-      else FirstInvalid n)
+      fitting n (as_glue q chain x) (λ g. if_valid (judge d g.1 (n + 1)) (λ v. vector_or n (option_and_then (only_if (λ w. satisfies w g.0)) (chain_vector q (costs_of rules) g.0 chain v))))
   judge (Goal g split d) x n =
       fitting n (goal_body g split x) (λ y. if_valid (judge d y (n + 1)) (λ v. vector_or n (only_if (is_target q g.tables g.pushed) v)))
   judge (Reference star k picks d) x n = fitting n (reference_body q rules star k picks x) (λ y. judge d y (n + 1))
@@ -58,13 +56,14 @@ module _ (q : Query) (rules : RuleFile) where
   judge (Binary f d e) x n =
       fitting n (as_binary q f x) (λ y. if_valid (judge d y.1 (n + 1)) (λ v. if_valid (judge e y.2 (n + 1 + node_count d)) (λ w. vector_or n (step q (costs_of rules) y.0 (v ∷ w ∷ [])))))
 
-  -- of a whole derivation: as a Glue over the query's goal with its requirement
-  unfoldable pub judge_root : Deriv → Judgement
-  judge_root (Glue chain d) =
-      if is_chain (root_requirement q) chain then
-      if_valid (judge d (query_goal q) 2) (λ v. vector_or 1 (option_and_then (only_if (λ w. satisfies w (root_requirement q))) (chain_vector q (costs_of rules) (root_requirement q) chain v)))
-      else FirstInvalid 1
-  judge_root _ = FirstInvalid 1
+  -- of a whole derivation
+  abbrev pub judge_root : Deriv → Judgement
+  judge_root tree = judge tree ForQuery 1
+
+-- the number of an invalid node, if there is one
+abbrev pub invalid_number : Judgement → Option ℕ
+invalid_number (Vector v) = None
+invalid_number (FirstInvalid n) = Some n
 
 -- a checker's answer is the judgement
 abbrev pub IsJudgement : Result Props ℕ → Judgement → Type 0

@@ -4,17 +4,17 @@ use Rattle.std.specs.Prelude.{◌≡◌, refl, ℕ, List, [], Option}
 use denote.Hole.Carrier.{hidden}
 use Rattle.star_model.specs.declared.derivations.Deriv.TheBlock.{hidden-the_row-Deriv-0}
 use Rattle.star_model.specs.declared.derivations.Deriv.TheVariants as made
-use Rattle.std.specs.Prelude.{◌+◌, if◌then◌else◌, ◌∷◌, option_and_then}
+use Rattle.std.specs.Prelude.{◌+◌, ◌∷◌, option_and_then}
 use Rattle.star_model.specs.Costs.{costs_of}
 use Rattle.star_model.specs.Vectors.{satisfies}
 use Rattle.star_model.specs.Operators.{step}
-use Rattle.star_model.specs.Plans.{is_chain, chain_vector}
+use Rattle.star_model.specs.Plans.{chain_vector}
 use Rattle.star_model.specs.Goals.{is_target}
-use Rattle.star_model.specs.Expected.{Expected, as_glue, goal_body, reference_body, as_leaf, as_unary, as_binary, query_goal, root_requirement}
+use Rattle.star_model.specs.Expected.{Expected, as_glue, goal_body, reference_body, as_leaf, as_unary, as_binary}
 use Rattle.star_model.specs.declared.query.Query.{Query}
 use Rattle.star_model.specs.declared.rules.RuleFile.{RuleFile}
 use Rattle.star_model.specs.declared.derivations.Deriv.{Deriv}
-use Rattle.star_model.specs.Judging.{vector_or, if_valid, fitting, only_if, node_count, judge, judge_root, FirstInvalid}
+use Rattle.star_model.specs.Judging.{vector_or, if_valid, fitting, only_if, node_count, judge}
 use Rattle.star_model.specs.declared.plans.GlueOp.{GlueOp}
 use Rattle.star_model.specs.declared.plans.Goal as goal
 use Rattle.star_model.specs.declared.rules.Flavour.{Flavour}
@@ -43,9 +43,7 @@ pub node_count-Binary : (f : Flavour) (d : Deriv) (e : Deriv) → node_count (ma
 unfolding node_count hidden-the_row-Deriv-0 hidden
 node_count-Binary f d e = refl
 
-pub judge-Glue : (q : Query) (rules : RuleFile) (chain : List GlueOp) (d : Deriv) (x : Expected) (n : ℕ) → judge q rules (made.Glue chain d) x n ≡ (fitting n (as_glue q x) (λ g. if is_chain g.0 chain then
-    if_valid (judge q rules d g.1 (n + 1)) (λ v. vector_or n (option_and_then (only_if (λ w. satisfies w g.0)) (chain_vector q (costs_of rules) g.0 chain v)))
-    else FirstInvalid n))
+pub judge-Glue : (q : Query) (rules : RuleFile) (chain : List GlueOp) (d : Deriv) (x : Expected) (n : ℕ) → judge q rules (made.Glue chain d) x n ≡ (fitting n (as_glue q chain x) (λ g. if_valid (judge q rules d g.1 (n + 1)) (λ v. vector_or n (option_and_then (only_if (λ w. satisfies w g.0)) (chain_vector q (costs_of rules) g.0 chain v)))))
 unfolding judge hidden-the_row-Deriv-0 hidden
 judge-Glue q rules chain d x n = refl
 
@@ -69,34 +67,6 @@ pub judge-Binary : (q : Query) (rules : RuleFile) (f : Flavour) (d : Deriv) (e :
 unfolding judge hidden-the_row-Deriv-0 hidden
 judge-Binary q rules f d e x n = refl
 
-pub judge_root-Glue : (q : Query) (rules : RuleFile) (chain : List GlueOp) (d : Deriv) → judge_root q rules (made.Glue chain d) ≡ (if is_chain (root_requirement q) chain then
-    if_valid (judge q rules d (query_goal q) 2) (λ v. vector_or 1 (option_and_then (only_if (λ w. satisfies w (root_requirement q))) (chain_vector q (costs_of rules) (root_requirement q) chain v)))
-    else FirstInvalid 1)
-unfolding judge_root hidden-the_row-Deriv-0 hidden
-judge_root-Glue q rules chain d = refl
-
-pub judge_root-Goal : (q : Query) (rules : RuleFile) (p1 : goal.Goal) (p2 : Option (ℕ × ℕ)) (p3 : Deriv) → judge_root q rules (made.Goal p1 p2 p3) ≡ (FirstInvalid 1)
-unfolding judge_root hidden-the_row-Deriv-0 hidden
-judge_root-Goal q rules p1 p2 p3 = refl
-
-pub judge_root-Reference : (q : Query) (rules : RuleFile) (p1 : List ℕ) (p2 : ℕ) (p3 : List ℕ) (p4 : Deriv) → judge_root q rules (made.Reference p1 p2 p3 p4) ≡ (FirstInvalid 1)
-unfolding judge_root hidden-the_row-Deriv-0 hidden
-judge_root-Reference q rules p1 p2 p3 p4 = refl
-
-pub judge_root-Leaf : (q : Query) (rules : RuleFile) (p1 : Flavour) → judge_root q rules (made.Leaf p1) ≡ (FirstInvalid 1)
-unfolding judge_root
-judge_root-Leaf q rules p1 = refl
-
-pub judge_root-Unary : (q : Query) (rules : RuleFile) (p1 : Flavour) (p2 : Deriv) → judge_root q rules (made.Unary p1 p2) ≡ (FirstInvalid 1)
-unfolding judge_root hidden-the_row-Deriv-0 hidden
-judge_root-Unary q rules p1 p2 = refl
-
-pub judge_root-Binary : (q : Query) (rules : RuleFile) (p1 : Flavour) (p2 : Deriv) (p3 : Deriv) → judge_root q rules (made.Binary p1 p2 p3) ≡ (FirstInvalid 1)
-unfolding judge_root hidden-the_row-Deriv-0 hidden
-judge_root-Binary q rules p1 p2 p3 = refl
-
 pub ruleset node_count_cases = (node_count-Glue, node_count-Goal, node_count-Reference, node_count-Leaf, node_count-Unary, node_count-Binary)
 
 pub ruleset judge_cases = (judge-Glue, judge-Goal, judge-Reference, judge-Leaf, judge-Unary, judge-Binary)
-
-pub ruleset judge_root_cases = (judge_root-Glue, judge_root-Goal, judge_root-Reference, judge_root-Leaf, judge_root-Unary, judge_root-Binary)

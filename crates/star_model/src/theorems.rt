@@ -13,7 +13,8 @@ ghost use Rattle.star_model.specs.Meaning.{meaning};
 ghost use Rattle.star_model.specs.Plans.{vector};
 ghost use Rattle.star_model.specs.Expected.{Expected};
 ghost use Rattle.star_model.specs.Derivations.{plan_of, is_valid, HasVector, IsRoot};
-ghost use Rattle.star_model.specs.Judging.{Vector, judge, judge_root};
+ghost use Rattle.star_model.specs.Judging.{Vector, judge, judge_root, invalid_number};
+ghost use Rattle.star_model.specs.InvalidNodes.{first_invalid};
 ghost use Rattle.star_model.specs.declared.costs.CostEntry.{CostEntry};
 ghost use Rattle.star_model.specs.declared.formula.Formula.{Formula};
 ghost use Rattle.star_model.specs.declared.query.Query.{Query};
@@ -138,4 +139,9 @@ pub fn judging_finds_valid_derivations()
 /// Of a whole tree it finds the vector exactly where the tree is a root derivation.
 pub fn judging_finds_root_derivations()
     ensures { (q : Query) (rules : RuleFile) (tree : Deriv) (v : Props) → (judge_root q rules tree ≡ Vector v) ↔ IsRoot q rules tree v }
+{}
+
+/// Where it finds no vector, it finds the first node in preorder that is invalid: its number, counted on from that of the top.
+pub fn judging_finds_the_first_invalid_node()
+    ensures { (q : Query) (rules : RuleFile) (d : Deriv) (x : Expected) (n : ℕ) → invalid_number (judge q rules d x n) ≡ first_invalid q rules d x n }
 {}
