@@ -2,3 +2,13 @@ pub mod Quoted
 pub mod Steps
 pub mod Parts
 pub mod Deepest
+pub mod Runs
+pub mod TextForm
+pub mod SymbolForm
+pub mod Longest
+pub mod Gaps
+pub mod Readings
+pub mod Spans
+pub mod Ends
+pub mod Accepted
+pub mod Laws

@@ -41,7 +41,7 @@ at_pair at rest lt first second =
     let here : at < length rest = omega arith in
     let next : suc at < length rest = omega arith in
     let two : suc (suc at) ≡ at + 2 = omega arith in
-    let seen : get_or rest (suc at) 0 ≡ 39 = rw (← add-one) second in
+    let seen : get_or rest (suc at) 0 ≡ 39 = ap (λ i. get_or rest i 0) (sym (add-one at)) ∙ second in
     rw (drop-cons rest at 0 here, drop-cons rest (suc at) 0 next)
     (quoted_len-pair (get_or rest at 0) (get_or rest (suc at) 0) (drop (suc (suc at)) rest) (eq-eqb _ _ first) (eq-eqb _ _ seen)
     ∙ ap (λ i. Some (unwrap_or (longer_by 2 (quoted_len (drop i rest))) 1)) two)

@@ -1,5 +1,6 @@
 -- The kinds of bytes.
-use Rattle.std.specs.Prelude.{ℕ, Bool, ◌==◌, ◌||◌, ◌&&◌, nat_le}
+use Rattle.std.specs.Prelude.{ℕ, Bool, ◌==◌, ◌||◌, ◌&&◌, nat_le, List, codes}
+use Rattle.std.specs.List.{list_any}
 
 -- space, tab, CR and LF
 abbrev pub is_blank : ℕ → Bool
@@ -22,9 +23,12 @@ is_in_word b = begins_word b || is_digit b
 abbrev pub is_quote : ℕ → Bool
 is_quote b = b == 39
 
--- ( ) [ ] { } , ; . | = < > + - * /
+-- the symbols of one byte
+abbrev pub symbol_bytes : List ℕ
+symbol_bytes = codes "()[]{},;.|=<>+-*/"
+
 abbrev pub is_symbol : ℕ → Bool
-is_symbol b = b == 40 || b == 41 || b == 91 || b == 93 || b == 123 || b == 125 || b == 44 || b == 59 || b == 46 || b == 124 || b == 61 || b == 60 || b == 62 || b == 43 || b == 45 || b == 42 || b == 47
+is_symbol b = list_any (λ s. b == s) symbol_bytes
 
 -- <= <> >=
 abbrev pub is_double : ℕ → ℕ → Bool

@@ -9,12 +9,17 @@ use Rattle.sb_text.specs.Forms.{IsToken}
 abbrev pub run : (ℕ → Bool) → List ℕ → ℕ
 run test bytes = length (take_while test bytes)
 
+-- all but LF
+abbrev pub in_comment : ℕ → Bool
+in_comment b = not (b == 10)
+
 -- one byte of white space, or a comment up to the next LF, or nothing
 abbrev pub gap_at : List ℕ → ℕ
 gap_at [] = 0
 gap_at (b ∷ rest) =
-    if is_blank b then 1 else if b == 35 then run (λ c. not (c == 10)) rest + 1 else 0
+    if is_blank b then 1 else if b == 35 then run in_comment rest + 1 else 0
 
+-- the length of the symbol that begins with `b`, the longer one where both stand there
 abbrev pub symbol_len : ℕ → List ℕ → Option ℕ
 symbol_len b [] = if is_symbol b then Some 1 else None
 symbol_len b (c ∷ rest) = if is_double b c then Some 2 else (if is_symbol b then Some 1 else None)
@@ -32,6 +37,7 @@ quoted_len (b ∷ c ∷ rest) =
     if is_quote b then (if is_quote c then Some (unwrap_or (longer_by 2 (quoted_len rest)) 1) else Some 1)
     else longer_by 1 (quoted_len (c ∷ rest))
 
+-- a run of so many digits is a number only where they are at most 19
 abbrev pub number_len : ℕ → Option ℕ
 number_len n = if nat_le n 19 then Some n else None
 

@@ -5,3 +5,4 @@ pub mod Tokens
 pub mod Statements
 pub mod Depth
 pub mod Refusal
+pub mod Reading

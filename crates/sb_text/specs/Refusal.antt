@@ -1,11 +1,11 @@
 -- Why a text is refused.
-use Rattle.std.specs.Prelude.{◌≡◌, ℕ, List, Option, None, Some}
+use Rattle.std.specs.Prelude.{◌≡◌, ◌≤◌, ℕ, All, List, length, Option, None, Some}
 use Rattle.sb_text.specs.declared.token.Token.{Token}
 use Rattle.sb_text.specs.declared.token.TextFault.{TextFault}
 use Rattle.sb_text.specs.declared.token.TextFault.TheVariants.{Lexical, TooDeep, Memory}
 use Rattle.sb_text.specs.Tokens.{lexed}
-use Rattle.sb_text.specs.Statements.{parts}
-use Rattle.sb_text.specs.Depth.{first_too_deep}
+use Rattle.sb_text.specs.Statements.{Part, tokens_of, parts}
+use Rattle.sb_text.specs.Depth.{greatest_depth, first_too_deep}
 
 abbrev pub first_fault : Option ℕ → Option ℕ → Option TextFault
 first_fault (Some offset) deep = Some (Lexical offset)
@@ -31,3 +31,9 @@ pub record AreTokens (source : List ℕ) (tokens : List Token) : Type 0 where
 abbrev pub IsFault : List ℕ → TextFault → Type 0
 IsFault source Memory = Unit {0}
 IsFault source fault = fault_of source ≡ Some fault
+
+-- all bytes are tokens, and each statement has at most 4,096 of them and brackets at most 32 deep
+pub record IsAccepted (source : List ℕ) : Type 0 where
+  pub whole : (lexed source).1 ≡ None
+  pub short : All (λ (part : Part). length (tokens_of part) ≤ 4096) (parts (lexed source).0)
+  pub shallow : All (λ (part : Part). greatest_depth 0 (tokens_of part) ≤ 32) (parts (lexed source).0)

@@ -8,9 +8,16 @@ use Rattle.sb_text.specs.declared.statement.StatementIter.{StatementIter}
 abbrev pub is_end : Token → Bool
 is_end t = t.first == 59
 
+-- all tokens but `;`
+abbrev pub is_inside : Token → Bool
+is_inside t = not (is_end t)
+
 -- a statement: its tokens, and whether a `;` ends it
 abbrev pub Part : Type 0
 Part = List Token × Bool
+
+abbrev pub tokens_of : Part → List Token
+tokens_of part = part.0
 
 abbrev pub put_first : Token → List Part → List Part
 put_first t [] = (t ∷ [], false) ∷ []
@@ -23,7 +30,7 @@ parts (t ∷ ts) = if is_end t then ([], true) ∷ parts ts else put_first t (pa
 
 -- how many tokens stand before the first `;`
 abbrev pub part_len : List Token → ℕ
-part_len ts = length (take_while (λ t. not (is_end t)) ts)
+part_len ts = length (take_while is_inside ts)
 
 abbrev pub part_of : Statement → Part
 part_of s = (s.tokens.now, s.ended)

@@ -9,6 +9,7 @@ const MOST_TOKENS: usize = 4096;
 
 const MOST_DEPTH: usize = 32;
 
+// The depth of brackets behind a token.
 fn depth_after(depth: usize, token: &Token) -> usize
     requires { depth < 2 ^ 32 }
     ensures { result ≡ depth_after depth token.now }
@@ -20,6 +21,7 @@ fn depth_after(depth: usize, token: &Token) -> usize
     }
 }
 
+// Whether a statement has too many tokens or nests its brackets too deep.
 fn is_too_deep(tokens: &[Token]) -> bool
     ensures { result ≡ is_too_deep tokens.now }
 {

@@ -1,7 +1,7 @@
 // What stands at the front of the bytes: white space, a comment or a token.
-ghost use Rattle.std.specs.Prelude.{◌≡◌, ◌≤◌, ◌<◌, ◌+◌, ◌^◌, not, ◌==◌, length, IfSome};
+ghost use Rattle.std.specs.Prelude.{◌≡◌, ◌≤◌, ◌<◌, ◌+◌, ◌^◌, length, IfSome};
 ghost use Rattle.sb_text.specs.Bytes.{is_blank, begins_word, is_digit, is_in_word, is_symbol, is_double};
-ghost use Rattle.sb_text.specs.Front.{run, gap_at, symbol_len, quoted_len, number_len, token_at};
+ghost use Rattle.sb_text.specs.Front.{run, in_comment, gap_at, symbol_len, quoted_len, number_len, token_at};
 
 use crate::TokenKind;
 
@@ -44,7 +44,7 @@ fn digit_run(bytes: &[u8]) -> usize
 }
 
 fn comment_run(bytes: &[u8]) -> usize
-    ensures value { result ≡ run (λ c. not (c == 10)) bytes.now }
+    ensures value { result ≡ run in_comment bytes.now }
     ensures bound { result ≤ length bytes.now }
 {
     bytes.iter().take_while(|b| **b != b'\n').count()

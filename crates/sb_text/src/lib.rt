@@ -8,6 +8,7 @@ mod depth;
 mod front;
 mod reader;
 mod statement;
+pub mod theorems;
 mod token;
 
 pub use reader::tokens;

@@ -9,6 +9,7 @@ use crate::front::{gap, token};
 use crate::{TextFault, Token};
 use std::alloc::Global;
 
+// The bytes from a place on.
 fn rest_from(source: &[u8], at: usize) -> &[u8]
     requires { at ≤ length source.now }
     ensures { result.now ≡ drop at source.now }
@@ -46,7 +47,8 @@ fn lexed(alloc: Global, source: &[u8]) -> Result<Vec<Token>, TextFault>
     Ok(tokens)
 }
 
-/// The tokens of a text, in order, or the fault of a text that is refused. Only want of memory refuses another.
+/// The tokens of a text, in order, or why it is refused. `Lexical` is judged over the whole text before `TooDeep`, and want of
+/// memory may come at any text. The time is linear in the length of the text.
 pub fn tokens(alloc: Global, source: &[u8]) -> Result<Vec<Token>, TextFault>
     requires { length source.now ≤ 1048576 }
     ensures { MatchResult result (λ v. AreTokens source.now v.items) (IsFault source.now) }

@@ -5,18 +5,22 @@ ghost use Rattle.sb_text.specs.Statements.{parts, part_len, part_of, parts_of_it
 
 use crate::Token;
 
-/// The tokens of a statement, and whether a `;` ends it.
+/// A statement of a text.
 #[derive(Clone, Copy)]
 pub struct Statement<'a> {
+    /// Its tokens, without the `;`.
     pub tokens: &'a [Token],
+    /// Whether a `;` ends it. Only the last statement of a text may lack it.
     pub ended: bool,
 }
 
+/// The statements of a list of tokens, in order. It takes no memory.
 #[derive(Drop)]
 pub struct StatementIter<'a> {
     rest: &'a [Token],
 }
 
+// How many tokens stand before the first `;`.
 fn part_len(tokens: &[Token]) -> usize
     ensures value { result ≡ part_len tokens.now }
     ensures bound { result ≤ length tokens.now }
@@ -55,7 +59,7 @@ impl<'a> Iterator for StatementIter<'a> {
     }
 }
 
-/// The statements, in order.
+/// The slices of the tokens before each `;`, and then, where tokens follow the last `;`, the slice of these.
 pub fn statements(tokens: &[Token]) -> StatementIter<'_>
     ensures { parts_of_iter result ≡ parts tokens.now }
 {

@@ -1,5 +1,5 @@
 -- The canonical words of a formula spell it.
-use Rattle.std.proofs.Common.{Bool, true, false, List, [], ◌∷◌, ◌++◌}
+use Rattle.std.proofs.Common.{List}
 use Rattle.star_model.specs.declared.formula.Formula.{Formula}
 use Rattle.star_model.specs.declared.formula.Formula.TheVariants as f
 use Rattle.spelling.specs.declared.words.FormulaWord.{FormulaWord}

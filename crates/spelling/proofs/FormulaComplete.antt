@@ -1,10 +1,10 @@
 -- What is spelled is read.
-use Rattle.std.proofs.Common.{◌≡◌, ℕ, zero, suc, ◌+◌, ◌-◌, ◌<◌, ◌≤◌, Bool, true, false, List, [], ◌∷◌, ◌++◌, length, Option, Some, None, ◌⊎◌, inl, inr, refl, sym, ap, ◌∙◌, subst, arith, append_assoc, append-nil, length-append}
+use Rattle.std.proofs.Common.{◌≡◌, ℕ, ◌+◌, ◌-◌, ◌<◌, ◌≤◌, List, [], ◌∷◌, ◌++◌, length, Option, Some, None, refl, sym, ap, ◌∙◌, subst, arith, append_assoc, append-nil, length-append}
 use Rattle.std.proofs.lemmas.Option.{some_pair_parts}
 use Rattle.star_model.specs.declared.formula.Formula.{Formula}
 use Rattle.star_model.specs.declared.formula.Formula.TheVariants as f
 use Rattle.star_model.specs.declared.formula.Var.{Var}
-use Rattle.star_model.specs.FormulaCases.{Add, Sub, Mul, Div, Min, Max, If}
+use Rattle.star_model.specs.FormulaCases.{Min, Max, If}
 use Rattle.star_model.specs.declared.formula.Test.{Test}
 use Rattle.spelling.specs.declared.words.FormulaWord.{FormulaWord}
 use Rattle.spelling.specs.declared.words.FormulaWord.TheVariants as w
@@ -12,7 +12,7 @@ use Rattle.spelling.specs.FormulaGrammar as g
 use Rattle.spelling.specs.FormulaGrammar.{Rank, Factor, Term, Sum, Whole, Spells}
 use Rattle.spelling.specs.declared.words.Sign.{Sign}
 use Rattle.spelling.specs.declared.words.Sign.TheVariants as s
-use Rattle.spelling.specs.FormulaReading.{Reader, goes_on, joined, series, sum_sign_of, product_sign_of, is_conditional, factor_at, bracketed_at, pair_at, term_at, sum_at, comparison_at, branches_at, conditional_at, whole_by, whole_at}
+use Rattle.spelling.specs.FormulaReading.{Reader, goes_on, joined, sum_sign_of, product_sign_of, factor_at, bracketed_at, pair_at, term_at, sum_at, comparison_at, branches_at, conditional_at, whole_by, whole_at}
 use Rattle.spelling.proofs.FormulaTurns.{rests, more}
 use Rattle.spelling.proofs.FormulaDepth.{at_some}
 

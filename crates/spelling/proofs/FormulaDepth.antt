@@ -1,5 +1,5 @@
 -- One more formula inside.
-use Rattle.std.proofs.Common.{◌≡◌, ℕ, zero, suc, ◌+◌, ◌-◌, ◌<◌, Option, None, List, refl, sym, ap, arith}
+use Rattle.std.proofs.Common.{◌≡◌, ℕ, zero, suc, ◌-◌, ◌<◌, None, List, ap, arith}
 use Rattle.spelling.specs.declared.words.FormulaWord.{FormulaWord}
 use Rattle.spelling.specs.FormulaReading.{whole_at, whole_by}
 

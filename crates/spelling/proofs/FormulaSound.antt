@@ -1,17 +1,17 @@
 -- What is read is spelled.
-use Rattle.std.proofs.Common.{◌≡◌, ℕ, zero, suc, ◌+◌, ◌-◌, ◌<◌, ◌≤◌, List, [], ◌∷◌, ◌++◌, Option, Some, None, refl, sym, ap, ◌∙◌, subst, arith, append_assoc, append-nil}
+use Rattle.std.proofs.Common.{◌≡◌, ℕ, zero, suc, List, [], ◌∷◌, ◌++◌, Option, Some, None, refl, sym, ap, ◌∙◌, subst, append_assoc, append-nil}
 use Rattle.std.proofs.lemmas.Option.{option_and_then_some, some_pair_parts}
 use Rattle.star_model.specs.declared.formula.Formula.{Formula}
 use Rattle.star_model.specs.declared.formula.Formula.TheVariants as f
 use Rattle.star_model.specs.declared.formula.Test.{Test}
-use Rattle.star_model.specs.FormulaCases.{Add, Sub, Mul, Div, Min, Max, If}
+use Rattle.star_model.specs.FormulaCases.{Min, Max, If}
 use Rattle.spelling.specs.declared.words.FormulaWord.{FormulaWord}
 use Rattle.spelling.specs.declared.words.FormulaWord.TheVariants as w
 use Rattle.spelling.specs.FormulaGrammar as g
 use Rattle.spelling.specs.FormulaGrammar.{Rank, Factor, Term, Sum, Whole, Spells}
 use Rattle.spelling.specs.declared.words.Sign.{Sign}
 use Rattle.spelling.specs.declared.words.Sign.TheVariants as s
-use Rattle.spelling.specs.FormulaReading.{Reader, ◌>>=◌, goes_on, joined, turn, after_open, after_close, after_comma, after_then, after_else, test_at, sum_sign_of, product_sign_of, is_conditional, factor_at, bracketed_at, pair_at, term_at, sum_at, comparison_at, branches_at, conditional_at, whole_by, whole_at}
+use Rattle.spelling.specs.FormulaReading.{Reader, ◌>>=◌, goes_on, joined, turn, after_open, after_close, after_comma, after_then, after_else, test_at, sum_sign_of, product_sign_of, factor_at, bracketed_at, pair_at, term_at, sum_at, comparison_at, branches_at, conditional_at, whole_by, whole_at}
 use Rattle.spelling.proofs.FormulaTurns.{rests}
 
 -- a formula of this rank stands at the front, and the rest after it
@@ -52,12 +52,12 @@ module _ (r q : Rank) (sign : List FormulaWord → Option Sign × List FormulaWo
   turn_sound n x _ all z rest next (something {after} w s some makes) t e =
       let e' = sym (ap (λ p. turn operand (goes_on sign operand n) x p.0 p.1) some) ∙ e in
       option_and_then_some (λ p. goes_on sign operand n (joined s x p.0) p.1) (operand after) (z, rest) e' (λ p h k.
-        let u = sound after p.0 p.1 h in
-        next (joined s x p.0) p.1 (record {
-          front = t.front ++ w ∷ u.front;
-          is = t.is ∙ ap (λ l. t.front ++ w ∷ l) u.is ∙ sym (append_assoc t.front (w ∷ u.front) p.1);
-          spells = makes t.front u.front x p.0 t.spells u.spells;
-        }) k)
+      let u = sound after p.0 p.1 h in
+      next (joined s x p.0) p.1 (record {
+        front = t.front ++ w ∷ u.front;
+        is = t.is ∙ ap (λ l. t.front ++ w ∷ l) u.is ∙ sym (append_assoc t.front (w ∷ u.front) p.1);
+        spells = makes t.front u.front x p.0 t.spells u.spells;
+      }) k)
 
   goes_sound : (n : ℕ) (x : Formula) (ws : List FormulaWord) (all : List FormulaWord) (z : Formula) (rest : List FormulaWord) → Takes r all x ws → goes_on sign operand n x ws ≡ Some (z, rest) → Takes r all z rest
   unfolding goes_on
@@ -112,10 +112,10 @@ module _ (inner : Reader Formula) (sound : (ws : List FormulaWord) (x : Formula)
   unfolding bracketed_at
   bracketed_sound ws x rest e =
       bind_ok inner _ ws x rest e (λ y mid h i.
-        bind_ok after_close _ mid x rest i (λ u mid' h' i'.
-          let p = some_pair_parts y x mid' rest i' in
-          let t = sound ws y mid h in
-          (t.front, t.is ∙ ap (λ l. t.front ++ l) (close_ok mid mid' u h' ∙ ap (λ l. w.Close ∷ l) p.1), subst (λ z. Spells Whole t.front z) p.0 t.spells)))
+      bind_ok after_close _ mid x rest i (λ u mid' h' i'.
+      let p = some_pair_parts y x mid' rest i' in
+      let t = sound ws y mid h in
+      (t.front, t.is ∙ ap (λ l. t.front ++ l) (close_ok mid mid' u h' ∙ ap (λ l. w.Close ∷ l) p.1), subst (λ z. Spells Whole t.front z) p.0 t.spells)))
 
   pub record Pair (ws : List FormulaWord) (x y : Formula) (rest : List FormulaWord) : Type 0 where
     pub one : List FormulaWord
@@ -132,38 +132,38 @@ module _ (inner : Reader Formula) (sound : (ws : List FormulaWord) (x : Formula)
       bind_ok after_comma _ m1 (x, y) rest e1 (λ u2 m2 h2 e2.
       bind_ok inner _ m2 (x, y) rest e2 (λ y' m3 h3 e3.
       bind_ok after_close _ m3 (x, y) rest e3 (λ u4 m4 h4 e4.
-        let p = some_pair_parts (x', y') (x, y) m4 rest e4 in
-        let s = sound m0 x' m1 h1 in
-        let t = sound m2 y' m3 h3 in
-        record {
-          one = s.front;
-          two = t.front;
-          is = open_ok ws m0 u0 h0 ∙ ap (λ l. w.Open ∷ l) (s.is ∙ ap (λ l. s.front ++ l) (comma_ok m1 m2 u2 h2 ∙ ap (λ l. w.Comma ∷ l) (t.is ∙ ap (λ l. t.front ++ l) (close_ok m3 m4 u4 h4 ∙ ap (λ l. w.Close ∷ l) p.1))));
-          first = subst (λ z. Spells Whole s.front z) (ap (λ q. q.0) p.0) s.spells;
-          second = subst (λ z. Spells Whole t.front z) (ap (λ q. q.1) p.0) t.spells;
-        })))))
+      let p = some_pair_parts (x', y') (x, y) m4 rest e4 in
+      let s = sound m0 x' m1 h1 in
+      let t = sound m2 y' m3 h3 in
+      record {
+        one = s.front;
+        two = t.front;
+        is = open_ok ws m0 u0 h0 ∙ ap (λ l. w.Open ∷ l) (s.is ∙ ap (λ l. s.front ++ l) (comma_ok m1 m2 u2 h2 ∙ ap (λ l. w.Comma ∷ l) (t.is ∙ ap (λ l. t.front ++ l) (close_ok m3 m4 u4 h4 ∙ ap (λ l. w.Close ∷ l) p.1))));
+        first = subst (λ z. Spells Whole s.front z) (ap (λ q. q.0) p.0) s.spells;
+        second = subst (λ z. Spells Whole t.front z) (ap (λ q. q.1) p.0) t.spells;
+      })))))
 
   min_made : (ws : List FormulaWord) (x : Formula) (rest : List FormulaWord) → (pair_at inner >>= λ p. λ l. Some (Min p.0 p.1, l)) ws ≡ Some (x, rest) → Takes Factor (w.Min ∷ ws) x rest
   min_made ws x rest e =
       bind_ok (pair_at inner) _ ws x rest e (λ p mid h i.
-        let q = some_pair_parts (Min p.0 p.1) x mid rest i in
-        let t = pair_sound ws p.0 p.1 mid h in
-        record {
-          front = w.Min ∷ (w.Open ∷ (t.one ++ (w.Comma ∷ (t.two ++ w.Close ∷ []))));
-          is = ap (λ l. w.Min ∷ l) (t.is ∙ ap (λ l. w.Open ∷ (t.one ++ (w.Comma ∷ (t.two ++ w.Close ∷ l)))) q.1 ∙ ap (λ l. w.Open ∷ l) (pair_ends t.one t.two rest));
-          spells = subst (λ z. Spells Factor (w.Min ∷ (w.Open ∷ (t.one ++ (w.Comma ∷ (t.two ++ w.Close ∷ []))))) z) q.0 (g.minimum t.first t.second);
-        })
+      let q = some_pair_parts (Min p.0 p.1) x mid rest i in
+      let t = pair_sound ws p.0 p.1 mid h in
+      record {
+        front = w.Min ∷ (w.Open ∷ (t.one ++ (w.Comma ∷ (t.two ++ w.Close ∷ []))));
+        is = ap (λ l. w.Min ∷ l) (t.is ∙ ap (λ l. w.Open ∷ (t.one ++ (w.Comma ∷ (t.two ++ w.Close ∷ l)))) q.1 ∙ ap (λ l. w.Open ∷ l) (pair_ends t.one t.two rest));
+        spells = subst (λ z. Spells Factor (w.Min ∷ (w.Open ∷ (t.one ++ (w.Comma ∷ (t.two ++ w.Close ∷ []))))) z) q.0 (g.minimum t.first t.second);
+      })
 
   max_made : (ws : List FormulaWord) (x : Formula) (rest : List FormulaWord) → (pair_at inner >>= λ p. λ l. Some (Max p.0 p.1, l)) ws ≡ Some (x, rest) → Takes Factor (w.Max ∷ ws) x rest
   max_made ws x rest e =
       bind_ok (pair_at inner) _ ws x rest e (λ p mid h i.
-        let q = some_pair_parts (Max p.0 p.1) x mid rest i in
-        let t = pair_sound ws p.0 p.1 mid h in
-        record {
-          front = w.Max ∷ (w.Open ∷ (t.one ++ (w.Comma ∷ (t.two ++ w.Close ∷ []))));
-          is = ap (λ l. w.Max ∷ l) (t.is ∙ ap (λ l. w.Open ∷ (t.one ++ (w.Comma ∷ (t.two ++ w.Close ∷ l)))) q.1 ∙ ap (λ l. w.Open ∷ l) (pair_ends t.one t.two rest));
-          spells = subst (λ z. Spells Factor (w.Max ∷ (w.Open ∷ (t.one ++ (w.Comma ∷ (t.two ++ w.Close ∷ []))))) z) q.0 (g.maximum t.first t.second);
-        })
+      let q = some_pair_parts (Max p.0 p.1) x mid rest i in
+      let t = pair_sound ws p.0 p.1 mid h in
+      record {
+        front = w.Max ∷ (w.Open ∷ (t.one ++ (w.Comma ∷ (t.two ++ w.Close ∷ []))));
+        is = ap (λ l. w.Max ∷ l) (t.is ∙ ap (λ l. w.Open ∷ (t.one ++ (w.Comma ∷ (t.two ++ w.Close ∷ l)))) q.1 ∙ ap (λ l. w.Open ∷ l) (pair_ends t.one t.two rest));
+        spells = subst (λ z. Spells Factor (w.Max ∷ (w.Open ∷ (t.one ++ (w.Comma ∷ (t.two ++ w.Close ∷ []))))) z) q.0 (g.maximum t.first t.second);
+      })
 
   factor_sound : (ws : List FormulaWord) (x : Formula) (rest : List FormulaWord) → factor_at inner ws ≡ Some (x, rest) → Takes Factor ws x rest
   unfolding factor_at
@@ -185,15 +185,15 @@ module _ (inner : Reader Formula) (sound : (ws : List FormulaWord) (x : Formula)
   unfolding term_at
   term_sound ws x rest e =
       bind_ok (factor_at inner) _ ws x rest e (λ y mid h i.
-        let t = factor_sound ws y mid h in
-        goes_sound Term Factor product_sign_of (factor_at inner) seen_product factor_sound _ y mid ws x rest (record { front = t.front; is = t.is; spells = g.factor t.spells }) i)
+      let t = factor_sound ws y mid h in
+      goes_sound Term Factor product_sign_of (factor_at inner) seen_product factor_sound _ y mid ws x rest (record { front = t.front; is = t.is; spells = g.factor t.spells }) i)
 
   sum_sound : (ws : List FormulaWord) (x : Formula) (rest : List FormulaWord) → sum_at inner ws ≡ Some (x, rest) → Takes Sum ws x rest
   unfolding sum_at
   sum_sound ws x rest e =
       bind_ok (term_at inner) _ ws x rest e (λ y mid h i.
-        let t = term_sound ws y mid h in
-        goes_sound Sum Term sum_sign_of (term_at inner) seen_sum term_sound _ y mid ws x rest (record { front = t.front; is = t.is; spells = g.term t.spells }) i)
+      let t = term_sound ws y mid h in
+      goes_sound Sum Term sum_sign_of (term_at inner) seen_sum term_sound _ y mid ws x rest (record { front = t.front; is = t.is; spells = g.term t.spells }) i)
 
   if_sound : (ws : List FormulaWord) (x : Formula) (rest : List FormulaWord) → conditional_at inner ws ≡ Some (x, rest) → Takes Whole (w.If ∷ ws) x rest
   unfolding conditional_at comparison_at branches_at
@@ -207,19 +207,19 @@ module _ (inner : Reader Formula) (sound : (ws : List FormulaWord) (x : Formula)
       bind_ok inner _ m3 b m' e3 (λ r m4 h4 e4.
       bind_ok after_else _ m4 b m' e4 (λ u5 m5 h5 e5.
       bind_ok inner _ m5 b m' e5 (λ s m6 h6 e6.
-        let last = some_pair_parts (If c.1 c.0 c.2 b.0 b.1) x m' rest i' in
-        let c_is = some_pair_parts (p, t, q) c m2 m e2 in
-        let b_is = some_pair_parts (r, s) b m6 m' e6 in
-        let tp = sum_sound ws p m0 h0 in
-        let tq = sum_sound m1 q m2 h2 in
-        let tr = sound m3 r m4 h4 in
-        let ts = sound m5 s m6 h6 in
-        record {
-          front = w.If ∷ (tp.front ++ (w.Test t ∷ (tq.front ++ (w.Then ∷ (tr.front ++ (w.Else ∷ ts.front))))));
-          is = ap (λ l. w.If ∷ l) (tp.is ∙ ap (λ l. tp.front ++ l) (test_ok m0 m1 t h1 ∙ ap (λ l. w.Test t ∷ l) (tq.is ∙ ap (λ l. tq.front ++ l) (c_is.1 ∙ then_ok m m3 u3 h3 ∙ ap (λ l. w.Then ∷ l) (tr.is ∙ ap (λ l. tr.front ++ l) (else_ok m4 m5 u5 h5 ∙ ap (λ l. w.Else ∷ l) (ts.is ∙ ap (λ l. ts.front ++ l) (b_is.1 ∙ last.1)))))))
+      let last = some_pair_parts (If c.1 c.0 c.2 b.0 b.1) x m' rest i' in
+      let c_is = some_pair_parts (p, t, q) c m2 m e2 in
+      let b_is = some_pair_parts (r, s) b m6 m' e6 in
+      let tp = sum_sound ws p m0 h0 in
+      let tq = sum_sound m1 q m2 h2 in
+      let tr = sound m3 r m4 h4 in
+      let ts = sound m5 s m6 h6 in
+      record {
+        front = w.If ∷ (tp.front ++ (w.Test t ∷ (tq.front ++ (w.Then ∷ (tr.front ++ (w.Else ∷ ts.front))))));
+        is = ap (λ l. w.If ∷ l) (tp.is ∙ ap (λ l. tp.front ++ l) (test_ok m0 m1 t h1 ∙ ap (λ l. w.Test t ∷ l) (tq.is ∙ ap (λ l. tq.front ++ l) (c_is.1 ∙ then_ok m m3 u3 h3 ∙ ap (λ l. w.Then ∷ l) (tr.is ∙ ap (λ l. tr.front ++ l) (else_ok m4 m5 u5 h5 ∙ ap (λ l. w.Else ∷ l) (ts.is ∙ ap (λ l. ts.front ++ l) (b_is.1 ∙ last.1)))))))
             ∙ if_ends t tp.front tq.front tr.front ts.front rest);
-          spells = subst (λ z. Spells Whole (w.If ∷ (tp.front ++ (w.Test t ∷ (tq.front ++ (w.Then ∷ (tr.front ++ (w.Else ∷ ts.front))))))) z) (ap (λ k. If k.1 k.0 k.2 r s) c_is.0 ∙ ap (λ k. If c.1 c.0 c.2 k.0 k.1) b_is.0 ∙ last.0) (g.conditional t tp.spells tq.spells tr.spells ts.spells);
-        })))))))))
+        spells = subst (λ z. Spells Whole (w.If ∷ (tp.front ++ (w.Test t ∷ (tq.front ++ (w.Then ∷ (tr.front ++ (w.Else ∷ ts.front))))))) z) (ap (λ k. If k.1 k.0 k.2 r s) c_is.0 ∙ ap (λ k. If c.1 c.0 c.2 k.0 k.1) b_is.0 ∙ last.0) (g.conditional t tp.spells tq.spells tr.spells ts.spells);
+      })))))))))
 
   by_sum : (ws : List FormulaWord) (x : Formula) (rest : List FormulaWord) → sum_at inner ws ≡ Some (x, rest) → Takes Whole ws x rest
   by_sum ws x rest e = let t = sum_sound ws x rest e in record { front = t.front; is = t.is; spells = g.whole t.spells }

@@ -1,5 +1,5 @@
 -- What a turn of a loop over operands does.
-use Rattle.std.proofs.Common.{◌≡◌, ℕ, zero, suc, ◌+◌, ◌-◌, ◌<◌, List, Option, Some, None, refl, sym, ap, ◌∙◌, subst, arith}
+use Rattle.std.proofs.Common.{◌≡◌, ℕ, zero, suc, ◌-◌, ◌<◌, List, Option, Some, None, refl, sym, ap, ◌∙◌, arith}
 use Rattle.star_model.specs.declared.formula.Formula.{Formula}
 use Rattle.spelling.specs.declared.words.FormulaWord.{FormulaWord}
 use Rattle.spelling.specs.declared.words.Sign.{Sign}

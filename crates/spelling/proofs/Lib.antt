@@ -3,3 +3,27 @@ mod FormulaDepth
 mod FormulaComplete
 mod FormulaSound
 mod FormulaCanon
+mod Numerals
+mod Statements
+mod CatalogueLaws
+mod CatalogueWriting
+mod QueryLaws
+mod DerivationLaws
+mod TokenForms
+mod Undoubling
+mod Readers
+mod ValueReading
+mod ConditionLaws
+mod FormulaLaws
+mod RuleLaws
+mod Thin
+mod Written
+mod LayoutLaws
+mod Formed
+mod Forming
+mod DerivationWriting
+mod RuleWriting
+pub mod Laws
+mod ReadingLaws
+mod Signs
+mod WritingLaws

@@ -1,12 +1,14 @@
 -- Which text spells a catalogue. The statements name what they use; what they name was defined before.
-use Rattle.std.specs.Prelude.{◌≡◌, ℕ, List, [], ◌∷◌, ◌++◌, map, Option, Some, None, option_map, option_and_then, codes}
+use Rattle.std.specs.Prelude.{◌≡◌, ℕ, List, [], ◌∷◌, ◌++◌, map, Option, Some, option_and_then, codes}
 use Rattle.star_model.specs.declared.catalogue.Catalogue.{Catalogue}
 use Rattle.star_model.specs.declared.catalogue.SiteDef.{SiteDef}
 use Rattle.star_model.specs.declared.catalogue.ColumnDef.{ColumnDef}
 use Rattle.star_model.specs.declared.catalogue.TableDef.{TableDef}
 use Rattle.star_model.specs.declared.catalogue.ColType.{ColType}
 use Rattle.star_model.specs.declared.catalogue.ColType.TheVariants as type
-use Rattle.std.specs.Prelude.{slice_get}
+use Rattle.star_model.specs.declared.catalogue.IndexDef.{IndexDef}
+use Rattle.std.specs.Prelude.{slice_get, unwrap_or}
+use Rattle.std.specs.Option.{option_map_or}
 use Rattle.spelling.specs.Lexemes.{Lexeme, Word, Number, Text, IsStatements, comma, joined_by, bracketed, Every, HasItem}
 use Rattle.spelling.specs.Layout.{layout}
 use Rattle.spelling.specs.Names.{place_of, all_of, ◌>>=◌}
@@ -67,6 +69,15 @@ pub record SpellsCatalogueStatement (lexemes : List Lexeme) (statement : Catalog
 
 -- ---- what the names stand for
 
+abbrev pub site_names : Catalogue → List (List ℕ)
+site_names c = map (λ s. s.name) c.sites
+
+abbrev pub table_names : Catalogue → List (List ℕ)
+table_names c = map (λ t. t.name) c.tables
+
+abbrev pub column_names : TableDef → List (List ℕ)
+column_names t = map (λ d. d.name) t.columns
+
 abbrev pub table_from : ℕ → TablePart → TableDef
 table_from site t =
     record { name = t.name; site = record { 0 = site }; rows = t.rows; pages = t.pages; file = t.file; columns = t.columns }
@@ -75,12 +86,12 @@ table_from site t =
 abbrev pub with_statement : Catalogue → CatalogueStatement → Option Catalogue
 with_statement c (Site s) = Some (record c { sites = c.sites ++ s ∷ [] })
 with_statement c (Table t) = do
-  site ← place_of t.site (map (λ s. s.name) c.sites)
+  site ← place_of t.site (site_names c)
   Some (record c { tables = c.tables ++ table_from site t ∷ [] })
 with_statement c (Index i) = do
-  place ← place_of i.table (map (λ t. t.name) c.tables)
+  place ← place_of i.table (table_names c)
   table ← slice_get c.tables place
-  columns ← all_of (map (λ name. place_of name (map (λ d. d.name) table.columns)) i.columns)
+  columns ← all_of (map (λ name. place_of name (column_names table)) i.columns)
   Some (record c { indexes = c.indexes ++ record { name = i.name; table = place; columns = columns; pages = i.pages } ∷ [] })
 
 abbrev pub with_statements : Catalogue → List CatalogueStatement → Option Catalogue
@@ -92,6 +103,30 @@ nothing_defined = record { sites = []; tables = []; indexes = [] }
 
 unfoldable pub catalogue_of : List CatalogueStatement → Option Catalogue
 catalogue_of statements = with_statements nothing_defined statements
+
+-- ---- how a catalogue is written: its sites, then its tables, then its indexes
+
+-- the name at a place; the empty one where there is none
+abbrev pub name_at : List (List ℕ) → ℕ → List ℕ
+name_at names place = unwrap_or (slice_get names place) []
+
+-- the names of the columns of the table at this place
+abbrev pub column_names_at : Catalogue → ℕ → List (List ℕ)
+column_names_at c place = option_map_or column_names (slice_get c.tables place) []
+
+abbrev pub table_statement : Catalogue → TableDef → CatalogueStatement
+table_statement c t =
+    Table (record { name = t.name; site = name_at (site_names c) t.site.0; rows = t.rows; pages = t.pages; file = t.file; columns = t.columns })
+
+abbrev pub index_statement : Catalogue → IndexDef → CatalogueStatement
+index_statement c i =
+    Index (record { name = i.name; table = name_at (table_names c) i.table; columns = map (name_at (column_names_at c i.table)) i.columns; pages = i.pages })
+
+abbrev pub catalogue_statements : Catalogue → List CatalogueStatement
+catalogue_statements c = map Site c.sites ++ (map (table_statement c) c.tables ++ map (index_statement c) c.indexes)
+
+abbrev pub canonical : Catalogue → List ℕ
+canonical c = layout (map catalogue_lexemes (catalogue_statements c))
 
 -- ---- the relation
 

@@ -9,6 +9,7 @@ use Rattle.star_model.specs.declared.derivations.Deriv.{Deriv}
 use Rattle.star_model.specs.declared.derivations.Deriv.TheBlock.{hidden-the_row-Deriv-0}
 use Rattle.star_model.specs.declared.derivations.Deriv.TheVariants as made
 use Rattle.star_model.specs.DerivCases as d
+use Rattle.sb_text.specs.Forms.{IsWord}
 use Rattle.star_model.specs.Sets.{members}
 use Rattle.spelling.specs.Lexemes.{Lexeme, Word, Number, IsStatements, left_brace, right_brace, comma, joined_by, Every}
 use Rattle.spelling.specs.Layout.{layout}
@@ -59,6 +60,11 @@ IsStep (Glue chain) = length chain ≤ 3
 IsStep (Goal goal split) = IsMask goal.tables × IsMask goal.pushed × AreMasks split
 IsStep (Reference star alternative values) = IsCounted alternative × (length values ≤ 2) × Every IsCounted values
 IsStep (Operator f) = Unit {0}
+
+-- a STAR is named by a word
+abbrev pub NamesWord : Step → Type 0
+NamesWord (Reference star alternative values) = IsWord star
+NamesWord _ = Unit {0}
 
 -- the nodes, in preorder
 unfoldable pub steps : Deriv → List Step

@@ -1,5 +1,5 @@
 -- The words that spell a formula with the fewest brackets.
-use Rattle.std.specs.Prelude.{◌≡◌, ℕ, Bool, true, false, if◌then◌else◌, List, [], ◌∷◌, ◌++◌}
+use Rattle.std.specs.Prelude.{Bool, true, false, List, [], ◌∷◌, ◌++◌}
 use Rattle.star_model.specs.declared.formula.Formula.{Formula}
 use Rattle.star_model.specs.declared.formula.Formula.TheVariants as f
 use Rattle.spelling.specs.declared.words.FormulaWord.{FormulaWord}

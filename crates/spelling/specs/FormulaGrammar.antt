@@ -1,5 +1,5 @@
 -- Which words spell a formula.
-use Rattle.std.specs.Prelude.{◌≡◌, ℕ, List, [], ◌∷◌, ◌++◌}
+use Rattle.std.specs.Prelude.{ℕ, List, [], ◌∷◌, ◌++◌}
 use Rattle.star_model.specs.declared.formula.Formula.{Formula}
 use Rattle.star_model.specs.declared.formula.Formula.TheVariants as f
 use Rattle.star_model.specs.FormulaCases.{Add, Sub, Mul, Div, Min, Max, If}

@@ -1,13 +1,13 @@
 -- Which lexemes spell a formula.
-use Rattle.std.specs.Prelude.{◌≡◌, ℕ, if◌then◌else◌, List, [], ◌∷◌, map, codes}
+use Rattle.std.specs.Prelude.{ℕ, List, [], ◌∷◌, map, codes}
 use Rattle.star_model.specs.declared.formula.Formula.{Formula}
 use Rattle.star_model.specs.declared.formula.Test.TheVariants as test
 use Rattle.star_model.specs.declared.formula.Var.{Var}
 use Rattle.star_model.specs.declared.formula.Var.TheVariants as var
-use Rattle.star_model.specs.Vectors.{same_numbers}
 use Rattle.spelling.specs.declared.words.FormulaWord.{FormulaWord}
 use Rattle.spelling.specs.declared.words.FormulaWord.TheVariants as w
 use Rattle.spelling.specs.Lexemes.{Lexeme, Word, Number, Text, Symbol}
+use Rattle.spelling.specs.Names.{found_in}
 use Rattle.spelling.specs.FormulaGrammar.{Spells, Whole}
 use Rattle.spelling.specs.FormulaCanonical.{words_of}
 
@@ -44,11 +44,6 @@ formula_symbols =
     ∷ (codes "+", w.Plus) ∷ (codes "-", w.Minus) ∷ (codes "*", w.Times) ∷ (codes "/", w.Over)
     ∷ (codes "(", w.Open) ∷ (codes ")", w.Close) ∷ (codes ",", w.Comma) ∷ []
 
--- what stands beside these bytes in a table; where they aren't in it, the word that stands in no formula
-abbrev pub found_in : List (List ℕ × FormulaWord) → List ℕ → FormulaWord
-found_in [] bytes = w.Other
-found_in (row ∷ rows) bytes = if same_numbers row.0 bytes then row.1 else found_in rows bytes
-
 abbrev pub variable_rows : List Var → List (List ℕ × FormulaWord) → List (List ℕ × FormulaWord)
 variable_rows [] rows = rows
 variable_rows (x ∷ xs) rows = (variable_word x, w.Variable x) ∷ variable_rows xs rows
@@ -56,8 +51,8 @@ variable_rows (x ∷ xs) rows = (variable_word x, w.Variable x) ∷ variable_row
 -- what a lexeme stands for in a formula
 unfoldable pub formula_word : Lexeme → FormulaWord
 formula_word (Number n) = w.Number n
-formula_word (Word bytes) = found_in (variable_rows all_variables formula_keywords) bytes
-formula_word (Symbol bytes) = found_in formula_symbols bytes
+formula_word (Word bytes) = found_in w.Other (variable_rows all_variables formula_keywords) bytes
+formula_word (Symbol bytes) = found_in w.Other formula_symbols bytes
 formula_word (Text bytes) = w.Other
 
 abbrev pub SpellsFormula : List Lexeme → Formula → Type 0

@@ -1,20 +1,15 @@
 -- The canonical layout of a text, and the lexemes that a text can have.
-use Rattle.std.specs.Prelude.{◌≡◌, ℕ, ◌^◌, ◌<◌, Bool, true, false, ◌==◌, ◌&&◌, ◌||◌, if◌then◌else◌, List, [], ◌∷◌, ◌++◌, codes, decimal}
-use Rattle.std.specs.List.{list_all, list_any}
-use Rattle.sb_text.specs.Tokens.{begins_word, is_in_word}
+use Rattle.std.specs.Prelude.{◌≡◌, ℕ, ◌^◌, ◌<◌, Bool, false, ◌||◌, if◌then◌else◌, List, [], ◌∷◌, ◌++◌, codes, decimal}
+use Rattle.std.specs.List.{list_any}
+use Rattle.sb_text.specs.Forms.{IsWord, IsSymbol, quoted}
 use Rattle.star_model.specs.Vectors.{same_numbers}
 use Rattle.spelling.specs.Lexemes.{Lexeme, Word, Number, Text, Symbol, semicolon}
-
--- each quote as two
-abbrev pub doubled : List ℕ → List ℕ
-doubled [] = []
-doubled (b ∷ rest) = if b == 39 then 39 ∷ 39 ∷ doubled rest else b ∷ doubled rest
 
 -- how a lexeme is written
 abbrev pub written : Lexeme → List ℕ
 written (Word bytes) = bytes
 written (Number n) = decimal n
-written (Text bytes) = 39 ∷ (doubled bytes ++ 39 ∷ [])
+written (Text bytes) = quoted bytes
 written (Symbol bytes) = bytes
 
 abbrev pub is_one_of : List ℕ → List ℕ → Bool
@@ -54,18 +49,9 @@ layout (statement ∷ later) = line statement ++ layout later
 
 -- ---- which lexemes the statements of a text can have
 
-abbrev pub is_word : List ℕ → Bool
-is_word [] = false
-is_word (b ∷ rest) = begins_word b && list_all is_in_word rest
-
--- the symbols but `;`, which ends a statement
-abbrev pub signs : List (List ℕ)
-signs =
-    codes "(" ∷ codes ")" ∷ codes "[" ∷ codes "]" ∷ codes "{" ∷ codes "}" ∷ codes "," ∷ codes "." ∷ codes "|" ∷ codes "="
-    ∷ codes "<" ∷ codes "<=" ∷ codes "<>" ∷ codes ">" ∷ codes ">=" ∷ codes "+" ∷ codes "-" ∷ codes "*" ∷ codes "/" ∷ []
-
+-- a text between quotes holds any bytes, and `;` ends a statement
 abbrev pub IsLexeme : Lexeme → Type 0
-IsLexeme (Word bytes) = is_word bytes ≡ true
+IsLexeme (Word bytes) = IsWord bytes
 IsLexeme (Number n) = n < 10 ^ 19
 IsLexeme (Text bytes) = Unit {0}
-IsLexeme (Symbol bytes) = list_any (same_numbers bytes) signs ≡ true
+IsLexeme (Symbol bytes) = IsSymbol bytes × (bytes ≡ codes ";" → ⊥)

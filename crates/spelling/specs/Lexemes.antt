@@ -1,10 +1,11 @@
 -- What the tokens of a text say: its lexemes, and its statements as lists of lexemes.
-use Rattle.std.specs.Prelude.{◌≡◌, ℕ, Bool, true, ◌==◌, if◌then◌else◌, List, [], ◌∷◌, ◌++◌, map, drop, slice_range, None, codes}
+use Rattle.std.specs.Prelude.{◌≡◌, ℕ, Bool, true, ◌==◌, if◌then◌else◌, List, [], ◌∷◌, ◌++◌, map, drop, None, codes}
 use Rattle.std.specs.Str.Parse.{digits_value}
 use Rattle.sb_text.specs.declared.token.Token.{Token}
 use Rattle.sb_text.specs.declared.token.TokenKind.{TokenKind}
 use Rattle.sb_text.specs.declared.token.TokenKind.TheVariants as kind
-use Rattle.sb_text.specs.Tokens.{lexed, parts}
+use Rattle.sb_text.specs.Tokens.{lexed, text_of}
+use Rattle.sb_text.specs.Statements.{parts}
 
 -- What a token says. A number is its value, so leading zeros make no difference; a text is what stands
 -- between its quotes, with each doubled quote as one.
@@ -28,7 +29,7 @@ said kind.Text bytes = Text (undoubled (drop 1 bytes))
 said kind.Symbol bytes = Symbol bytes
 
 abbrev pub lexeme_of : List ℕ → Token → Lexeme
-lexeme_of source t = said t.kind (slice_range source t.start t.«end»)
+lexeme_of source t = said t.kind (text_of source t)
 
 abbrev pub lexemes_of : List ℕ → List Token → List Lexeme
 lexemes_of source tokens = map (lexeme_of source) tokens

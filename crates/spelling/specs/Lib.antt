@@ -9,3 +9,9 @@ pub mod FormulaGrammar
 pub mod FormulaCanonical
 pub mod FormulaReading
 pub mod Formulas
+pub mod Reading
+pub mod Cursors
+pub mod Values
+pub mod Rules
+pub mod Tiny
+pub mod Writing

@@ -1,5 +1,6 @@
 -- Which text spells a query over a catalogue.
-use Rattle.std.specs.Prelude.{◌≡◌, ℕ, Bool, true, false, List, [], ◌∷◌, ◌++◌, map, Option, Some, None, option_map, option_and_then, codes, pos, neg_ℤ, slice_get}
+use Rattle.std.specs.Prelude.{◌≡◌, ℕ, false, List, [], ◌∷◌, ◌++◌, map, Option, Some, None, option_map, codes, pos, neg_ℤ, slice_get}
+use Rattle.std.specs.Prelude.{unwrap_or}
 use Rattle.star_model.specs.declared.catalogue.Catalogue.{Catalogue}
 use Rattle.star_model.specs.declared.catalogue.Value.{Value}
 use Rattle.star_model.specs.declared.catalogue.Value.TheVariants as value
@@ -51,11 +52,12 @@ pub record QueryStatement : Type 0 where
 abbrev pub column_lexemes : ColumnName → List Lexeme
 column_lexemes c = Word c.quantifier ∷ dot ∷ Word c.column ∷ []
 
+abbrev pub own_name : Option (List ℕ) → List Lexeme
+own_name None = []
+own_name (Some name) = Word name ∷ []
+
 abbrev pub item_lexemes : Item → List Lexeme
-item_lexemes i = Word i.table ∷ own_name i.name where
-  own_name : Option (List ℕ) → List Lexeme
-  own_name None = []
-  own_name (Some name) = Word name ∷ []
+item_lexemes i = Word i.table ∷ own_name i.name
 
 abbrev pub cmp_lexeme : Cmp → Lexeme
 cmp_lexeme cmp.Eq = Symbol (codes "=")
@@ -95,8 +97,18 @@ at_lexemes (Some name) = Word (codes "at") ∷ Word name ∷ []
 abbrev pub query_lexemes : QueryStatement → List Lexeme
 query_lexemes q =
     Word (codes "select") ∷ (columns_lexemes q.select
-      ++ Word (codes "from") ∷ (joined_by comma (map item_lexemes q.items)
-        ++ (where_lexemes q.comparisons ++ (order_lexemes q.order ++ at_lexemes q.site))))
+    ++ Word (codes "from") ∷ (joined_by comma (map item_lexemes q.items)
+    ++ (where_lexemes q.comparisons ++ (order_lexemes q.order ++ at_lexemes q.site))))
+
+-- a column of a table that is its own quantifier
+abbrev pub only_column : List ℕ → List ℕ → QueryStatement
+only_column table column = record {
+  select = record { quantifier = table; column = column } ∷ [];
+  items = record { table = table; name = None } ∷ [];
+  comparisons = [];
+  order = [];
+  site = None;
+}
 
 -- no table, quantifier or site has such a name
 abbrev pub reserved_in_queries : List (List ℕ)
@@ -116,11 +128,12 @@ HasFreeQuantifier c = IsFree c.quantifier
 abbrev pub HasFreeNames : Item → Type 0
 HasFreeNames i = IsFree i.table × IsFreeIfAny i.name
 
+abbrev pub IsFreeSide : Side → Type 0
+IsFreeSide (OfColumn c) = HasFreeQuantifier c
+IsFreeSide (OfConstant c) = Unit {0}
+
 abbrev pub ComparesFree : Comparison → Type 0
-ComparesFree p = HasFreeQuantifier p.left × on_right p.right where
-  on_right : Side → Type 0
-  on_right (OfColumn c) = HasFreeQuantifier c
-  on_right (OfConstant c) = Unit {0}
+ComparesFree p = HasFreeQuantifier p.left × IsFreeSide p.right
 
 -- what a query must have, and may name
 pub record IsQueryStatement (q : QueryStatement) : Type 0 where
@@ -140,10 +153,7 @@ pub record SpellsQueryStatement (lexemes : List Lexeme) (q : QueryStatement) : T
 
 -- an item without a name is named like its table
 abbrev pub quantifier_name : Item → List ℕ
-quantifier_name i = named i.name where
-  named : Option (List ℕ) → List ℕ
-  named None = i.table
-  named (Some name) = name
+quantifier_name i = unwrap_or i.name i.table
 
 abbrev pub value_of : Constant → Value
 value_of (Whole n) = value.Int (pos n)

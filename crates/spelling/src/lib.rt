@@ -2,4 +2,12 @@
 //! derivations, catalogues, queries and rule files, and the laws that one text spells at most one tree.
 #![tactic(auto)]
 
+mod cursor;
+mod ending;
+pub mod theorems;
 pub mod words;
+mod writer;
+
+pub use cursor::{Cursor, same_lexeme, text_bytes};
+pub use ending::Ending;
+pub use writer::Writer;

@@ -3,3 +3,7 @@ pub mod FaultLaws
 pub mod Along
 pub mod Causes
 pub mod Derived
+pub mod TinyLaws
+pub mod Cutting
+pub mod BuiltLaws
+pub mod ThinLaws

@@ -1,6 +1,9 @@
 pub mod CommandLine
 pub mod Lines
+pub mod TinyText
 pub mod Built
+pub mod ThinReading
+pub mod Cut
 pub mod Faults
 pub mod Judging
 pub mod Plan

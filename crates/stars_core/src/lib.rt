@@ -2,6 +2,7 @@
 #![tactic(auto)]
 
 mod answer;
+mod built;
 mod command;
 mod compose;
 mod judging;
@@ -9,6 +10,7 @@ mod laws;
 mod read;
 mod refusal;
 mod status;
+mod thin;
 mod top;
 
 pub use answer::Answer;

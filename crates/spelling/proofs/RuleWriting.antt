@@ -1,0 +1,74 @@
+-- A rule file that a text spells is spelled by its own statements, in the order of their numbers.
+use Rattle.std.proofs.Common.{◌≡◌, ℕ, ◌+◌, ◌<◌, ◌≤◌, Bool, true, false, nat_lt, if◌then◌else◌, List, [], ◌∷◌, ◌++◌, map, refl, sym, ap, ◌∙◌, subst, arith, lt-ltb}
+use Rattle.star_model.specs.declared.rules.StarDef.{StarDef}
+use Rattle.star_model.specs.declared.rules.FormulaDef.{FormulaDef}
+use Rattle.star_model.specs.declared.rules.RuleFile.{RuleFile}
+use Rattle.spelling.specs.Lexemes.{Lexeme, IsStatements, Every}
+use Rattle.spelling.specs.Rules as spec
+use Rattle.spelling.specs.Rules.{SpellsDefinitions, SpellsStar, SpellsFormulaDef, SpellsRules, Definition, OfFormula, OfStar, number_of, definition_lexemes, formula_def_lexemes, star_lexemes, put_in, in_order, definitions, rule_lexemes}
+use Rattle.spelling.proofs.Thin.{canonical_formula_def}
+
+abbrev From : ℕ → Definition → Type 0
+From n x = n ≤ number_of x
+
+both : (n : ℕ) (xs ys : List Definition) → Every (From n) xs → Every (From n) ys → Every (From n) (xs ++ ys)
+both n [] ys h k = k
+both n (x ∷ xs) ys h k = (h.0, both n xs ys h.1 k)
+
+before : (x y : Definition) → number_of x < number_of y → nat_lt (number_of x) (number_of y) ≡ true
+before x y h = lt-ltb (number_of x) (number_of y) h
+
+not_before : (x y : Definition) → number_of y ≤ number_of x → nat_lt (number_of x) (number_of y) ≡ false
+not_before x y h = grind arith
+
+kept : (n : ℕ) (x : Definition) (ys : List Definition) → From n x → Every (From n) ys → Every (From n) (put_in x ys)
+kept n x [] h k = (h, tt)
+kept n x (y ∷ ys) h k = at (nat_lt (number_of x) (number_of y)) (kept n x ys h k.1) where
+  at : (b : Bool) → Every (From n) (put_in x ys) → Every (From n) (if b then x ∷ y ∷ ys else y ∷ put_in x ys)
+  at true later = (h, (k.0, k.1))
+  at false later = (k.0, later)
+
+all_kept : (n : ℕ) (xs : List Definition) → Every (From n) xs → Every (From n) (in_order xs)
+unfolding in_order
+all_kept n [] h = tt
+all_kept n (x ∷ xs) h = kept n x (in_order xs) h.0 (all_kept n xs h.1)
+
+-- one that is before all others comes first
+first : (x : Definition) (ys : List Definition) → Every (From (number_of x + 1)) ys → put_in x ys ≡ x ∷ ys
+first x [] h = refl
+first x (y ∷ ys) h = rw (before x y (omega (arith, h.0))) refl
+
+first_of_all : (x : Definition) (xs ys : List Definition) → Every (From (number_of x + 1)) xs → Every (From (number_of x + 1)) ys → in_order (xs ++ x ∷ ys) ≡ x ∷ in_order (xs ++ ys)
+unfolding in_order
+first_of_all x [] ys h k = first x (in_order ys) (all_kept (number_of x + 1) ys k)
+first_of_all x (y ∷ xs) ys h k = ap (put_in y) (first_of_all x xs ys h.1 k) ∙ rw (not_before y x (omega (arith, h.0))) refl
+
+-- the numbers rise
+rising : {n : ℕ} {statements : List (List Lexeme)} {fs : List FormulaDef} {ss : List StarDef} → SpellsDefinitions n statements fs ss
+    → (m : ℕ) → m ≤ n → Every (From m) (map OfFormula fs) × Every (From m) (map OfStar ss)
+rising spec.none m le = (tt, tt)
+rising (spec.formula p h) m le = let later = rising h m (omega arith) in ((omega (arith, p.number), later.0), later.1)
+rising (spec.star p h) m le = let later = rising h m (omega arith) in (later.0, (omega (arith, p.number), later.1))
+
+own_formula : (n : ℕ) (lexemes : List Lexeme) (d : FormulaDef) → SpellsFormulaDef n lexemes d → SpellsFormulaDef n (formula_def_lexemes d) d
+own_formula n lexemes d p = subst (λ m. SpellsFormulaDef m (formula_def_lexemes d) d) p.number (canonical_formula_def d)
+
+own_star : (n : ℕ) (lexemes : List Lexeme) (s : StarDef) → SpellsStar n lexemes s → SpellsStar n (star_lexemes s) s
+own_star n lexemes s p = record { number = p.number; are = refl; stands = p.stands }
+
+written : {n : ℕ} {statements : List (List Lexeme)} {fs : List FormulaDef} {ss : List StarDef} → SpellsDefinitions n statements fs ss
+    → SpellsDefinitions n (map definition_lexemes (definitions fs ss)) fs ss
+unfolding in_order
+written spec.none = spec.none
+written (spec.formula {number} {lexemes} {d} {formulas} {stars} p h) =
+    let later = rising h (d.statement + 1) (omega (arith, p.number)) in
+    let e = first (OfFormula d) (definitions formulas stars) (all_kept (d.statement + 1) _ (both (d.statement + 1) (map OfFormula formulas) (map OfStar stars) later.0 later.1)) in
+    subst (λ l. SpellsDefinitions number (map definition_lexemes l) (d ∷ formulas) stars) (sym e) (spec.formula (own_formula number lexemes d p) (written h))
+written (spec.star {number} {lexemes} {s} {formulas} {stars} p h) =
+    let later = rising h (s.statement + 1) (omega (arith, p.number)) in
+    let e = first_of_all (OfStar s) (map OfFormula formulas) (map OfStar stars) later.0 later.1 in
+    subst (λ l. SpellsDefinitions number (map definition_lexemes l) formulas (s ∷ stars)) (sym e) (spec.star (own_star number lexemes s p) (written h))
+
+-- where some text spells the rule file, so does each text with its own statements
+pub written_rules_spell : (text : List ℕ) (rules : RuleFile) → SpellsRules text rules → (other : List ℕ) → IsStatements other (rule_lexemes rules) → SpellsRules other rules
+written_rules_spell text rules p other are = record { statements = rule_lexemes rules; are = are; define = written p.define }

@@ -1,0 +1,65 @@
+-- Reading from the front of a list of lexemes.
+use Rattle.std.specs.Prelude.{◌≡◌, ◌≤◌, ◌<◌, ℕ, List, [], ◌∷◌, length, Option, Some, None, option_and_then, if◌then◌else◌}
+use Rattle.std.specs.Str.Parse.{IsNumeral}
+use Rattle.sb_text.specs.declared.token.Token.{Token}
+use Rattle.sb_text.specs.declared.token.TokenKind.{TokenKind}
+use Rattle.sb_text.specs.declared.token.TokenKind.TheVariants as kind
+use Rattle.star_model.specs.Vectors.{same_numbers}
+use Rattle.spelling.specs.Lexemes.{Lexeme, Word, Number, Text, Symbol}
+
+-- what is read, and what is left; none where it isn't there
+abbrev pub Reader : Type 0 → Type 0
+Reader A = List Lexeme → Option (A × List Lexeme)
+
+infixl 10 ◌>>=◌
+abbrev pub ◌>>=◌ : {A B : Type 0} → Reader A → (A → Reader B) → Reader B
+first >>= next = λ lexemes. option_and_then (λ found. next found.0 found.1) (first lexemes)
+
+infixl 10 ◌>>◌
+abbrev pub ◌>>◌ : {A B : Type 0} → Reader A → Reader B → Reader B
+first >> next = λ lexemes. option_and_then (λ found. next found.1) (first lexemes)
+
+abbrev pub pure : {A : Type 0} → A → Reader A
+pure x = λ lexemes. Some (x, lexemes)
+
+-- this word
+abbrev pub the_word : List ℕ → Reader (Unit {0})
+the_word wanted [] = None
+the_word wanted (Word bytes ∷ rest) = if same_numbers bytes wanted then Some (tt, rest) else None
+the_word wanted (Number n ∷ rest) = None
+the_word wanted (Text bytes ∷ rest) = None
+the_word wanted (Symbol bytes ∷ rest) = None
+
+-- this symbol
+abbrev pub the_symbol : List ℕ → Reader (Unit {0})
+the_symbol wanted [] = None
+the_symbol wanted (Word bytes ∷ rest) = None
+the_symbol wanted (Number n ∷ rest) = None
+the_symbol wanted (Text bytes ∷ rest) = None
+the_symbol wanted (Symbol bytes ∷ rest) = if same_numbers bytes wanted then Some (tt, rest) else None
+
+abbrev pub a_word : Reader (List ℕ)
+a_word [] = None
+a_word (Word bytes ∷ rest) = Some (bytes, rest)
+a_word (Number n ∷ rest) = None
+a_word (Text bytes ∷ rest) = None
+a_word (Symbol bytes ∷ rest) = None
+
+abbrev pub a_number : Reader ℕ
+a_number [] = None
+a_number (Word bytes ∷ rest) = None
+a_number (Number n ∷ rest) = Some (n, rest)
+a_number (Text bytes ∷ rest) = None
+a_number (Symbol bytes ∷ rest) = None
+
+abbrev pub a_text : Reader (List ℕ)
+a_text [] = None
+a_text (Word bytes ∷ rest) = None
+a_text (Number n ∷ rest) = None
+a_text (Text bytes ∷ rest) = Some (bytes, rest)
+a_text (Symbol bytes ∷ rest) = None
+
+-- what a function that reads answers: what was read, where it is there
+abbrev pub Reads : {A : Type 0} → Option (A × List Lexeme) → Option A → List Lexeme → Type 0
+Reads read (Some x) rest = read ≡ Some (x, rest)
+Reads read None rest = read ≡ None

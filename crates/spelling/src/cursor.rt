@@ -1,0 +1,193 @@
+// Reading the lexemes of a statement from the front.
+ghost use Rattle.std.specs.Prelude.{◌≡◌, option_map, option_copied, ℕ, IsTrue, ◌↔◌, [], ◌<◌, length, drop, IfOk};
+ghost use Rattle.spelling.specs.Lexemes.{undoubled, lexeme_of, lexemes_of};
+ghost use Rattle.spelling.specs.Cursors.{AreTokensOf, IsMachineNumber};
+ghost use Rattle.std.specs.Str.Parse.{digits_value};
+ghost use Rattle.sb_text.specs.Tokens.{text_of};
+ghost use Rattle.sb_text.specs.Reading.{IsTokenOf};
+ghost use Rattle.spelling.specs.Reading.{Reads, the_word, the_symbol, a_word, a_number, a_text};
+
+use sb_text::{Token, TokenKind};
+use std::alloc::{AllocError, Global};
+use std::marker::Model;
+
+/// The lexemes of a statement that are still to be read. Where a method answers `None`, the next lexeme is no such one.
+#[derive(Drop)]
+pub struct Cursor<'a> {
+    source: &'a [u8],
+    left: &'a [Token],
+}
+
+impl<'a> Model for Cursor<'a> {
+    ghost use Rattle.std.specs.Prelude.{List};
+    ghost use Rattle.spelling.specs.Lexemes.{Lexeme, lexemes_of};
+    ghost use Rattle.spelling.specs.Cursors.{AreTokensOf};
+
+    ghost Value = { List Lexeme };
+
+    ghost view = { λ c. lexemes_of c.source.now c.left.now };
+
+    ghost invariant = { λ c. AreTokensOf c.source.now c.left.now };
+}
+
+fn behind_first(bytes: &[u8]) -> &[u8]
+    requires { 0 < length bytes.now }
+    ensures { result.now ≡ drop 1 bytes.now }
+{
+    &bytes[1..]
+}
+
+// The number that the digits write.
+fn value_of(digits: &[u8]) -> u64
+    requires { IsMachineNumber digits.now }
+    ensures { result ≡ digits_value 10 digits.now }
+{
+    let mut value = 0;
+    for digit in digits {
+        value = value * 10 + u64::from(*digit - b'0');
+    }
+    value
+}
+
+// The number that a token of the source says.
+fn number_of(source: &[u8], token: &Token) -> u64
+    requires token { IsTokenOf source.now token.now }
+    requires number { token.now.kind ≡ TokenKind.Number }
+    ensures { result ≡ digits_value 10 (text_of source.now token.now) }
+{
+    value_of(&source[token.start as usize..token.end as usize])
+}
+
+fn same_text(source: &[u8], token: &Token, other: &[u8], theirs: &Token) -> bool
+    requires token { IsTokenOf source.now token.now }
+    requires theirs { IsTokenOf other.now theirs.now }
+    ensures { IsTrue result ↔ (text_of source.now token.now ≡ text_of other.now theirs.now) }
+{
+    source[token.start as usize..token.end as usize]
+        == other[theirs.start as usize..theirs.end as usize]
+}
+
+/// Whether a token of one source says the same as a token of another.
+pub fn same_lexeme(source: &[u8], token: &Token, other: &[u8], theirs: &Token) -> bool
+    requires token { IsTokenOf source.now token.now }
+    requires theirs { IsTokenOf other.now theirs.now }
+    ensures { IsTrue result ↔ (lexeme_of source.now token.now ≡ lexeme_of other.now theirs.now) }
+{
+    if token.kind != theirs.kind {
+        return false;
+    }
+    if token.kind == TokenKind::Number {
+        return number_of(source, token) == number_of(other, theirs);
+    }
+    same_text(source, token, other, theirs)
+}
+
+impl<'a> Cursor<'a> {
+    /// All lexemes of these tokens of the source.
+    pub fn new(source: &'a [u8], tokens: &'a [Token]) -> Cursor<'a>
+        requires { AreTokensOf source.now tokens.now }
+        ensures { result ≡ lexemes_of source.now tokens.now }
+    {
+        Cursor { source, left: tokens }
+    }
+
+    /// Whether nothing is left.
+    pub fn is_done(&self) -> bool
+        ensures { IsTrue result ↔ (self.now ≡ []) }
+    {
+        self.left.is_empty()
+    }
+
+    /// Passes this word.
+    pub fn the_word(&mut self, wanted: &[u8]) -> Option<()>
+        ensures { Reads (the_word wanted.now self.old) result self.new }
+    {
+        match self.left {
+            [token, rest @ ..] if token.kind == TokenKind::Word => {
+                let bytes = &self.source[token.start as usize..token.end as usize];
+                if bytes != wanted {
+                    return None;
+                }
+                self.left = rest;
+                Some(())
+            }
+            _ => None,
+        }
+    }
+
+    /// Passes this symbol.
+    pub fn the_symbol(&mut self, wanted: &[u8]) -> Option<()>
+        ensures { Reads (the_symbol wanted.now self.old) result self.new }
+    {
+        match self.left {
+            [token, rest @ ..] if token.kind == TokenKind::Symbol => {
+                let bytes = &self.source[token.start as usize..token.end as usize];
+                if bytes != wanted {
+                    return None;
+                }
+                self.left = rest;
+                Some(())
+            }
+            _ => None,
+        }
+    }
+
+    /// The next word.
+    pub fn word(&mut self) -> Option<&'a [u8]>
+        ensures { Reads (a_word self.old) (option_copied result) self.new }
+    {
+        match self.left {
+            [token, rest @ ..] if token.kind == TokenKind::Word => {
+                let bytes = &self.source[token.start as usize..token.end as usize];
+                self.left = rest;
+                Some(bytes)
+            }
+            _ => None,
+        }
+    }
+
+    /// The next number.
+    pub fn number(&mut self) -> Option<u64>
+        ensures { Reads (a_number self.old) result self.new }
+    {
+        match self.left {
+            [token, rest @ ..] if token.kind == TokenKind::Number => {
+                let number = number_of(self.source, token);
+                self.left = rest;
+                Some(number)
+            }
+            _ => None,
+        }
+    }
+
+    /// The next text, as it is written behind its first quote.
+    pub fn text(&mut self) -> Option<&'a [u8]>
+        ensures { Reads (a_text self.old) (option_map undoubled (option_copied result)) self.new }
+    {
+        match self.left {
+            [token, rest @ ..] if token.kind == TokenKind::Text => {
+                let bytes = &self.source[token.start as usize..token.end as usize];
+                self.left = rest;
+                Some(behind_first(bytes))
+            }
+            _ => None,
+        }
+    }
+}
+
+/// What a text says that is written so behind its first quote: the bytes with each doubled quote as one.
+pub fn text_bytes(alloc: Global, written: &[u8]) -> Result<Vec<u8>, AllocError>
+    ensures { IfOk result (λ bytes. bytes.items ≡ undoubled written.now) }
+{
+    let mut bytes = Vec::new(alloc);
+    let mut at = 0;
+    while at + 1 < written.len() {
+        bytes.push(written[at])?;
+        if written[at] == b'\'' {
+            at += 2;
+        } else {
+            at += 1;
+        }
+    }
+    Ok(bytes)
+}

@@ -1,0 +1,134 @@
+// The laws of the definitions, each the clause of a function that does nothing.
+
+ghost use Rattle.std.specs.Prelude.{◌≡◌, ◌↔◌, ℕ, List, [], ◌∷◌, ◌++◌, map, true, None, Some};
+ghost use Rattle.sb_text.specs.declared.token.Token.{Token};
+ghost use Rattle.sb_text.specs.Tokens.{lexed};
+ghost use Rattle.sb_text.specs.Statements.{parts};
+ghost use Rattle.spelling.specs.Lexemes.{Lexeme, Word, Number, Text, Symbol, IsStatements, lexemes_of, HasItem, Every};
+ghost use Rattle.spelling.specs.Layout.{line, layout, IsLexeme};
+ghost use Rattle.spelling.specs.Reading.{the_word, the_symbol, a_word, a_number, a_text};
+ghost use Rattle.spelling.specs.Writing.{Written, whole, put, puts, ended, lines};
+ghost use Rattle.spelling.specs.Derivations.{SpellsDerivation};
+ghost use Rattle.spelling.specs.Catalogues.{CatalogueStatement, catalogue_of, catalogue_statements, Site, Table, TablePart, table_from, catalogue_lexemes, SpellsCatalogueStatement, SpellsCatalogue};
+ghost use Rattle.spelling.specs.Queries.{QueryStatement, only_column, query_lexemes, IsFree, SpellsQueryStatement, SpellsQuery};
+ghost use Rattle.spelling.specs.Formulas.{SpellsFormula, formula_lexemes};
+ghost use Rattle.spelling.specs.Rules.{SpellsStar, SpellsFormulaDef, formula_def_lexemes, rule_lexemes, SpellsRules};
+ghost use Rattle.spelling.specs.Tiny.{tiny_lexemes, tiny_rules};
+ghost use Rattle.star_model.specs.Vectors.{same_numbers};
+ghost use Rattle.star_model.specs.WellFormed.{WellFormedCatalogue};
+ghost use Rattle.star_model.specs.declared.catalogue.Catalogue.{Catalogue};
+ghost use Rattle.star_model.specs.declared.catalogue.SiteDef.{SiteDef};
+ghost use Rattle.star_model.specs.declared.catalogue.TableDef.{TableDef};
+ghost use Rattle.star_model.specs.declared.catalogue.ColumnDef.{ColumnDef};
+ghost use Rattle.star_model.specs.declared.query.Query.{Query};
+ghost use Rattle.star_model.specs.declared.formula.Formula.{Formula};
+ghost use Rattle.star_model.specs.declared.derivations.Deriv.{Deriv};
+ghost use Rattle.star_model.specs.declared.rules.RuleFile.{RuleFile};
+ghost use Rattle.star_model.specs.declared.rules.StarDef.{StarDef};
+ghost use Rattle.star_model.specs.declared.rules.FormulaDef.{FormulaDef};
+
+/// One text has one list of statements.
+pub fn one_list_of_statements()
+    ensures { (text : List ℕ) (a b : List (List Lexeme)) → IsStatements text a → IsStatements text b → a ≡ b }
+{}
+
+/// The statements of a text whose tokens are known.
+pub fn statements_come_from_tokens()
+    ensures { (text : List ℕ) (tokens : List Token) (list : List (List Token)) → lexed text ≡ (tokens, None) → parts tokens ≡ map (λ ts. (ts, true)) list → IsStatements text (map (lexemes_of text) list) }
+{}
+
+/// Statements that are written one after the other, lexeme by lexeme, stand in canonical layout.
+pub fn what_is_written_is_in_layout()
+    ensures statement { (text : List ℕ) (statement : List Lexeme) → ended (puts (whole text) statement) ≡ whole (text ++ line statement) }
+    ensures text { (text : List ℕ) (statements : List (List Lexeme)) → lines (whole text) statements ≡ whole (text ++ layout statements) }
+{}
+
+/// What it comes to that lexemes and statements are written one after the other.
+pub fn writing_goes_on()
+    ensures none { (w : Written) → puts w [] ≡ w }
+    ensures more { (w : Written) (x : Lexeme) (xs : List Lexeme) → puts w (x ∷ xs) ≡ puts (put w x) xs }
+    ensures append { (w : Written) (xs ys : List Lexeme) → puts w (xs ++ ys) ≡ puts (puts w xs) ys }
+    ensures no_lines { (w : Written) → lines w [] ≡ w }
+    ensures more_lines { (w : Written) (statement : List Lexeme) (later : List (List Lexeme)) → lines w (statement ∷ later) ≡ lines (ended (puts w statement)) later }
+    ensures append_lines { (w : Written) (early later : List (List Lexeme)) → lines w (early ++ later) ≡ lines (lines w early) later }
+/// The layout of statements is read as these statements, thus also the layout of those of any text.
+pub fn layout_is_read_back()
+    ensures any { (statements : List (List Lexeme)) → Every (Every IsLexeme) statements → IsStatements (layout statements) statements }
+    ensures again { (text : List ℕ) (statements : List (List Lexeme)) → IsStatements text statements → IsStatements (layout statements) statements }
+{}
+
+/// The statements of any text are of lexemes that can be laid out.
+pub fn statements_can_be_laid_out()
+    ensures { (text : List ℕ) (statements : List (List Lexeme)) → IsStatements text statements → Every (Every IsLexeme) statements }
+{}
+
+/// One text spells at most one derivation.
+pub fn one_derivation()
+    ensures { (text : List ℕ) (t u : Deriv) → SpellsDerivation text t → SpellsDerivation text u → t ≡ u }
+{}
+
+/// One text spells at most one catalogue, and so does each of its statements.
+pub fn one_catalogue()
+    ensures text { (text : List ℕ) (c d : Catalogue) → SpellsCatalogue text c → SpellsCatalogue text d → c ≡ d }
+    ensures statement { (lexemes : List Lexeme) (s t : CatalogueStatement) → SpellsCatalogueStatement lexemes s → SpellsCatalogueStatement lexemes t → s ≡ t }
+{}
+
+/// How a well-formed catalogue is written means it, and is what its canonical text has to say.
+pub fn catalogues_are_written()
+    ensures means { (c : Catalogue) → WellFormedCatalogue c → catalogue_of (catalogue_statements c) ≡ Some c }
+    ensures spelled { (c : Catalogue) → WellFormedCatalogue c → (text : List ℕ) → IsStatements text (map catalogue_lexemes (catalogue_statements c)) → SpellsCatalogue text c }
+{}
+
+/// One text spells at most one query over a catalogue.
+pub fn one_query()
+    ensures text { (catalogue : Catalogue) (text : List ℕ) (q r : Query) → SpellsQuery catalogue text q → SpellsQuery catalogue text r → q ≡ r }
+    ensures statement { (lexemes : List Lexeme) (q r : QueryStatement) → SpellsQueryStatement lexemes q → SpellsQueryStatement lexemes r → q ≡ r }
+{}
+
+/// One list of lexemes spells at most one formula.
+pub fn one_formula()
+    ensures { (lexemes : List Lexeme) (x y : Formula) → SpellsFormula lexemes x → SpellsFormula lexemes y → x ≡ y }
+{}
+
+/// What is written with the fewest brackets spells its formula, and the statement that defines it.
+pub fn fewest_brackets_spell()
+    ensures formula { (x : Formula) → SpellsFormula (formula_lexemes x) x }
+    ensures statement { (d : FormulaDef) → SpellsFormulaDef d.statement (formula_def_lexemes d) d }
+{}
+
+/// One text spells at most one rule file, and so does each of its statements.
+pub fn one_rule_file()
+    ensures text { (text : List ℕ) (a b : RuleFile) → SpellsRules text a → SpellsRules text b → a ≡ b }
+    ensures star { (n : ℕ) (lexemes : List Lexeme) (s t : StarDef) → SpellsStar n lexemes s → SpellsStar n lexemes t → s ≡ t }
+    ensures formula { (n : ℕ) (lexemes : List Lexeme) (d f : FormulaDef) → SpellsFormulaDef n lexemes d → SpellsFormulaDef n lexemes f → d ≡ f }
+{}
+
+/// Where some text spells a rule file, so does each text with its own statements in the order of their numbers.
+pub fn rule_files_are_written()
+    ensures { (text : List ℕ) (rules : RuleFile) → SpellsRules text rules → (other : List ℕ) → IsStatements other (rule_lexemes rules) → SpellsRules other rules }
+{}
+
+/// What the smallest texts spell: the smallest rule file that is accepted, one site with one table at it, and a query for the
+/// only column of the only table.
+pub fn smallest_texts_spell()
+    ensures rules { (text : List ℕ) → IsStatements text tiny_lexemes → SpellsRules text tiny_rules }
+    ensures catalogue { (text : List ℕ) (s : SiteDef) (t : TablePart) → t.site ≡ s.name → HasItem t.columns → IsStatements text (catalogue_lexemes (Site s) ∷ catalogue_lexemes (Table t) ∷ [])
+        → SpellsCatalogue text (record { sites = s ∷ []; tables = table_from 0 t ∷ []; indexes = [] }) }
+    ensures query { (catalogue : Catalogue) (text : List ℕ) (t : TableDef) (c : ColumnDef) → catalogue.tables ≡ t ∷ [] → t.columns ≡ c ∷ [] → IsFree t.name
+        → IsStatements text (query_lexemes (only_column t.name c.name) ∷ [])
+        → SpellsQuery catalogue text (record { catalogue = catalogue; quants = record { name = t.name; table = 0 } ∷ []; select = record { quant = record { 0 = 0 }; column = 0 } ∷ []; preds = []; order = []; site = None }) }
+{}
+
+/// What is read from the front of a list of lexemes stood there, and nothing else is read.
+pub fn readers_read()
+    ensures the_word { (wanted : List ℕ) (lexemes rest : List Lexeme) → (the_word wanted lexemes ≡ Some (tt, rest)) ↔ (lexemes ≡ Word wanted ∷ rest) }
+    ensures the_symbol { (wanted : List ℕ) (lexemes rest : List Lexeme) → (the_symbol wanted lexemes ≡ Some (tt, rest)) ↔ (lexemes ≡ Symbol wanted ∷ rest) }
+    ensures a_word { (lexemes rest : List Lexeme) (bytes : List ℕ) → (a_word lexemes ≡ Some (bytes, rest)) ↔ (lexemes ≡ Word bytes ∷ rest) }
+    ensures a_number { (lexemes rest : List Lexeme) (n : ℕ) → (a_number lexemes ≡ Some (n, rest)) ↔ (lexemes ≡ Number n ∷ rest) }
+    ensures a_text { (lexemes rest : List Lexeme) (bytes : List ℕ) → (a_text lexemes ≡ Some (bytes, rest)) ↔ (lexemes ≡ Text bytes ∷ rest) }
+{}
+
+/// The test of bytes decides that they are the same.
+pub fn same_numbers_are_same()
+    ensures { (a b : List ℕ) → (same_numbers a b ≡ true) ↔ (a ≡ b) }
+{}

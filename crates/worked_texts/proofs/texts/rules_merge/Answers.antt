@@ -1,0 +1,21 @@
+-- Written by tools/worked_texts.
+use Rattle.std.proofs.Common.{refl}
+use Rattle.spelling.specs.Rules as rules
+use Rattle.spelling.proofs.Laws.{canonical_formula_def}
+use Rattle.spelling.specs.Lexemes.{statements_in}
+use Rattle.sb_text.specs.Tokens.{lexed}
+use Rattle.sb_text.specs.Tokens.{lexed_after}
+use Rattle.spelling.specs.FormulaCanonical.{words_of}
+use Rattle.spelling.specs.FormulaCanonical.{rank_of}
+use Rattle.spelling.specs.Formulas.{formula_lexeme}
+use Rattle.spelling.specs.Values.{value_lexemes}
+use Rattle.spelling.specs.Values.{IsValue}
+use Rattle.spelling.specs.Values.{condition_lexemes}
+use Rattle.spelling.specs.Values.{IsCondition}
+use Rattle.spelling.specs.Rules.{plan_lexemes}
+use Rattle.spelling.specs.Rules.{IsPlan}
+use Rattle.worked_texts.proofs.texts.rules_merge.Goals as goal
+
+pub returns : goal.returns
+unfolding statements_in lexed lexed_after words_of rank_of formula_lexeme value_lexemes IsValue condition_lexemes IsCondition plan_lexemes IsPlan
+returns c = record { statements = _; are = record { all_tokens = refl; are = refl }; define = rules.formula (canonical_formula_def _) (rules.formula (canonical_formula_def _) (rules.formula (canonical_formula_def _) (rules.formula (canonical_formula_def _) (rules.formula (canonical_formula_def _) (rules.formula (canonical_formula_def _) (rules.formula (canonical_formula_def _) (rules.formula (canonical_formula_def _) (rules.formula (canonical_formula_def _) (rules.formula (canonical_formula_def _) (rules.formula (canonical_formula_def _) (rules.formula (canonical_formula_def _) (rules.formula (canonical_formula_def _) (rules.formula (canonical_formula_def _) (rules.formula (canonical_formula_def _) (rules.formula (canonical_formula_def _) (rules.formula (canonical_formula_def _) (rules.formula (canonical_formula_def _) (rules.formula (canonical_formula_def _) (rules.formula (canonical_formula_def _) (rules.formula (canonical_formula_def _) (rules.formula (canonical_formula_def _) (rules.star (record { number = refl; are = refl; stands = record { name = refl; some_parameters = tt; parameters = (refl, (refl, tt)); some_alternatives = tt; alternatives = (record { ranges = tt; condition = tt; body = record { inputs = refl; count = refl; values = ((refl, refl), (((refl, refl), (refl, refl)), tt)) } }, tt) } }) (rules.star (record { number = refl; are = refl; stands = record { name = refl; some_parameters = tt; parameters = (refl, (refl, (refl, tt))); some_alternatives = tt; alternatives = (record { ranges = tt; condition = tt; body = (refl, tt, ((refl, refl), ((refl, refl), ((refl, refl), (((refl, refl), (refl, refl)), tt))))) }, tt) } }) (rules.star (record { number = refl; are = refl; stands = record { name = refl; some_parameters = tt; parameters = (refl, (refl, (refl, (refl, tt)))); some_alternatives = tt; alternatives = (record { ranges = tt; condition = (refl, refl); body = (record { inputs = refl; count = refl; values = ((refl, refl), (tt, tt)) }, (((refl, refl), ((refl, refl), (refl, refl))), (refl, refl)), (((refl, refl), ((refl, refl), (refl, refl))), (refl, refl))) }, tt) } }) (rules.none))))))))))))))))))))))))) }
