@@ -51,6 +51,8 @@ pub fn writing_goes_on()
     ensures no_lines { (w : Written) → lines w [] ≡ w }
     ensures more_lines { (w : Written) (statement : List Lexeme) (later : List (List Lexeme)) → lines w (statement ∷ later) ≡ lines (ended (puts w statement)) later }
     ensures append_lines { (w : Written) (early later : List (List Lexeme)) → lines w (early ++ later) ≡ lines (lines w early) later }
+{}
+
 /// The layout of statements is read as these statements, thus also the layout of those of any text.
 pub fn layout_is_read_back()
     ensures any { (statements : List (List Lexeme)) → Every (Every IsLexeme) statements → IsStatements (layout statements) statements }
