@@ -1,0 +1,4 @@
+mod Root
+mod Only
+mod Accepted
+mod Laws
