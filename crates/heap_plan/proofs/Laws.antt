@@ -1,4 +1,6 @@
 -- The laws that other crates may cite. Each is the clause of a function of the module `theorems`.
+pub use Rattle.heap_plan.proofs.Accepted.{tiny_accepted}
+pub use Rattle.heap_plan.proofs.Formed.{small_formed}
 use Rattle.std.proofs.Common.{◌≡◌, ◌≤◌, ℕ, sym, ap, subst, ◌∙◌, arith, get_or}
 use Rattle.star_model.specs.Numbers.{cut_product}
 use Rattle.star_model.specs.declared.catalogue.TableDef.{TableDef}
