@@ -1,9 +1,8 @@
 -- The smallest rules are accepted.
-use Rattle.std.proofs.Common.{◌≡◌, ◌<◌, ℕ, zero, suc, inl, inr, Bool, true, false, List, [], ◌∷◌, Option, Some, None, codes, refl, sym, ap, subst, ◌∙◌, arith}
+use Rattle.std.proofs.Common.{◌≡◌, ℕ, zero, suc, inl, inr, Bool, true, false, List, [], ◌∷◌, Some, refl, ap, ◌∙◌, arith}
 use Rattle.std.specs.Prelude.{Contains, length, cond, not, ◌&&◌, map, nat_lt, is_some}
 use Rattle.std.specs.List.{list_all, list_any, find}
 use Rattle.star_model.specs.Vectors.{same_numbers}
-use Rattle.star_model.specs.Stars.{star_named}
 use Rattle.star_model.specs.Costs.{formula_of}
 use Rattle.star_model.specs.Monotone.{first_offending, is_free, nodes, offends}
 use Rattle.star_model.specs.Kinds.{kind_of}

@@ -6,7 +6,7 @@ use Rattle.star_model.specs.Numbers.{cut_product}
 use Rattle.star_model.specs.declared.catalogue.TableDef.{TableDef}
 use Rattle.star_model.proofs.Laws.{judges_root}
 use Rattle.star_model.specs.Derivations.{IsRoot, IsLeast}
-use Rattle.star_model.specs.Judging.{Judgement, Vector, judge_root}
+use Rattle.star_model.specs.Judging.{Vector, judge_root}
 use Rattle.star_model.specs.declared.query.Query.{Query}
 use Rattle.star_model.specs.declared.plans.Props.{Props}
 use Rattle.star_model.specs.declared.derivations.Deriv.{Deriv}

@@ -7,12 +7,11 @@ use Rattle.star_model.specs.Plans.{is_chain}
 use Rattle.star_model.specs.Meaning.{plain}
 use Rattle.star_model.specs.Stars.{numbered}
 use Rattle.star_model.specs.Vectors.{same_numbers}
-use Rattle.star_model.specs.Expected.{Expected, ForGoal, Call, Expression, leaf_of, unary_of, binary_of, root_call, may_split, goal_body, reference_body, body_of, bound, meets, query_goal, root_requirement}
+use Rattle.star_model.specs.Expected.{Expected, ForGoal, Expression, leaf_of, unary_of, binary_of, root_call, may_split, goal_body, reference_body, body_of, bound, meets, root_requirement}
 use Rattle.star_model.specs.Derivations.{plan_of, is_valid, IsRoot}
 use Rattle.star_model.specs.DerivCases.{Glue, Goal, Reference, Unary, Binary}
 use Rattle.star_model.specs.declared.derivations.Deriv.TheVariants.{Leaf}
 use Rattle.star_model.specs.declared.derivations.Deriv.{Deriv}
-use Rattle.star_model.specs.declared.plans.Goal as goal
 use Rattle.star_model.specs.declared.plans.GlueOp.{GlueOp}
 use Rattle.star_model.specs.declared.plans.GlueOp.TheVariants as op
 use Rattle.star_model.specs.declared.plans.Props.{Props}
@@ -117,7 +116,7 @@ module _ (q : Query) where
       let a = bind _ (numbered (alternative ∷ []) k) y h in
       let one = numbered_one alternative a.0 k a.1 in
       let values = only_values picks y
-              (subst (λ (x : Alternative). option_and_then (λ c. if meets q c x.condition then Some (Expression x.body c) else None) (bound q x.ranges picks arguments) ≡ Some y) (sym one.1) a.2) in
+      (subst (λ (x : Alternative). option_and_then (λ c. if meets q c x.condition then Some (Expression x.body c) else None) (bound q x.ranges picks arguments) ≡ Some y) (sym one.1) a.2) in
       (one.0, values.0, values.1)
 
   only_reference : (d : Deriv) → is_valid q tiny_rules d (root_call 1 0 None) ≡ true → d ≡ heap_reference

@@ -2,9 +2,9 @@
 
 ghost use Rattle.std.specs.Prelude.{◌≡◌, IfOk, codes};
 ghost use Rattle.star_model.specs.Derivations.{IsLeast};
-ghost use Rattle.star_model.specs.FormulaCases.{Add, Mul};
+ghost use Rattle.star_model.specs.Formulas.{value};
+ghost use Rattle.star_model.specs.declared.formula.Vars.{Vars};
 ghost use Rattle.star_model.specs.declared.formula.Formula.TheVariants as formula;
-ghost use Rattle.star_model.specs.declared.formula.Var.TheVariants as var;
 ghost use Rattle.star_model.specs.declared.plans.Props.{Props};
 ghost use Rattle.spelling.specs.Tiny.{tiny_rules};
 ghost use Rattle.heap_plan.specs.Small.{IsSmall, heap_derivation, heap_cost};
@@ -81,16 +81,20 @@ fn product(alloc: Global, left: Formula, right: Formula) -> Result<Boxed<Formula
     )
 }
 
-/// `10 * pages + cpu * rows`
+/// `10 * pages + cpu * rows`, which the rules have for the first production and for each further one.
+#[tactic(auto, using(star_model::specs::FormulasEquations::value_cases))]
 fn heap_formula(alloc: Global) -> Result<Formula, AllocError>
-    ensures { IfOk result (λ f. f ≡ formula.Add (formula.Mul (formula.Number 10) (formula.Variable var.Pages)) (formula.Mul (formula.Variable var.Cpu) (formula.Variable var.Rows))) }
+    ensures { IfOk result (λ f. (v : Vars) → value f v ≡ heap_cost v.pages v.cpu v.rows) }
 {
     let pages = product(alloc, Formula::Number(10), Formula::Variable(Var::Pages))?;
-    let rows = product(alloc, Formula::Variable(Var::Cpu), Formula::Variable(Var::Rows))?;
+    let rows = product(
+        alloc,
+        Formula::Variable(Var::Cpu),
+        Formula::Variable(Var::Rows),
+    )?;
     Ok(Formula::Add(pages, rows))
 }
 
-#[tactic(auto, using(star_model::specs::FormulasEquations::value_cases))]
 fn heap_cost(alloc: Global, site: &SiteDef, table: &TableDef) -> Result<Num, AllocError>
     ensures { IfOk result (λ n. n ≡ heap_cost table.now.pages site.now.cpu table.now.rows) }
 {
