@@ -25,6 +25,8 @@ mod FormulaFitting
 mod CatalogueCanonical
 mod DerivationWriting
 mod Commented
+mod RuleBodies
+mod RootWriting
 mod RuleWriting
 pub mod Laws
 mod ReadingLaws
