@@ -27,3 +27,4 @@ pub mod Laws
 mod ReadingLaws
 mod Signs
 mod WritingLaws
+mod Doubling
