@@ -16,12 +16,15 @@ mod ValueReading
 mod ConditionLaws
 mod FormulaLaws
 mod RuleLaws
-mod Thin
+mod SmallestTexts
 mod Written
 mod LayoutLaws
 mod Formed
 mod Forming
+mod FormulaFitting
+mod CatalogueCanonical
 mod DerivationWriting
+mod Commented
 mod RuleWriting
 pub mod Laws
 mod ReadingLaws

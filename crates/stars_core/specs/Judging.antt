@@ -6,7 +6,14 @@ use Rattle.sb_text.specs.declared.token.Token.{Token}
 use Rattle.stars_core.specs.declared.refusal.TextKind.{TextKind}
 use Rattle.stars_core.specs.declared.refusal.Refusal.{Refusal}
 use Rattle.stars_core.specs.declared.refusal.Refusal.TheVariants.{Usage, Unread, Refused, Memory}
-use Rattle.stars_core.specs.Built.{Given}
+use Rattle.star_model.specs.declared.catalogue.Catalogue.{Catalogue as CatalogueTree}
+use Rattle.star_model.specs.declared.catalogue.SiteDef.{SiteDef}
+use Rattle.star_model.specs.declared.query.Query.{Query as QueryTree}
+use Rattle.spelling.specs.Lexemes.{statements_in}
+use Rattle.spelling.specs.Catalogues.{TablePart}
+use Rattle.stars_core.specs.declared.refusal.TextKind.TheVariants.{Rules, Catalogue, Query}
+use Rattle.stars_core.specs.Small.{small_catalogue, IsSelection}
+use Rattle.stars_core.specs.Built.{Given, HasTable, SelectsFrom, IsUnbuiltAt}
 use Rattle.stars_core.specs.Faults.{Kind, TooLong, Lexical, TooDeep, HasFault, First, Stops}
 
 -- a refusal of a text of this kind, whose line is as P says, or want of memory
@@ -26,3 +33,23 @@ abbrev pub TokensOf : TextKind → List ℕ → Result (Vec Token Global) Refusa
 TokensOf kind bytes (Ok tokens) = Tokenised bytes tokens.items
 TokensOf kind bytes (Err refusal) =
     Refuses kind (λ line. First (λ k l. HasFault [] (kind, bytes) k l) (TooLong ∷ Lexical ∷ TooDeep ∷ []) line) refusal
+
+-- a catalogue that has a reader, and what it says
+pub record CatalogueRead (c : List ℕ) (catalogue : CatalogueTree) : Type 0 where
+  pub count : length (statements_in c) ≡ 2
+  pub site : SiteDef
+  pub table : TablePart
+  pub has : HasTable (statements_in c) site table
+  pub is : catalogue ≡ small_catalogue site table
+
+-- a query over this catalogue that has a reader, and what it says
+pub record QueryRead (catalogue : CatalogueTree) (q : List ℕ) (query : QueryTree) : Type 0 where
+  pub count : length (statements_in q) ≡ 1
+  pub selects : (s : SiteDef) (t : TablePart) → catalogue ≡ small_catalogue s t → SelectsFrom (statements_in q) t
+  pub is : IsSelection catalogue query
+
+abbrev pub UnbuiltCatalogue : List ℕ → ℕ → Type 0
+UnbuiltCatalogue c n = (earlier : List Given) → IsUnbuiltAt earlier (Catalogue, c) n
+
+abbrev pub UnbuiltQuery : CatalogueTree → List ℕ → ℕ → Type 0
+UnbuiltQuery catalogue q n = (c : List ℕ) → CatalogueRead c catalogue → IsUnbuiltAt ((Catalogue, c) ∷ []) (Query, q) n

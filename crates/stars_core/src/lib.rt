@@ -9,6 +9,7 @@ mod judging;
 mod laws;
 mod read;
 mod refusal;
+mod small;
 mod status;
 mod thin;
 mod top;
