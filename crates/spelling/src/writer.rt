@@ -32,8 +32,10 @@ fn push_doubled(out: &mut Vec<u8>, bytes: &[u8]) -> Result<(), AllocError>
     Ok(())
 }
 
-/// A text that is written lexeme by lexeme. The writer puts the spaces and the ends of lines; where a method ends in an error,
-/// what was written is of no use.
+/// A text that is written lexeme by lexeme, in canonical layout: the writer puts the spaces and the ends of lines. Whether bytes
+/// have the form of a word or a symbol is the caller's to know.
+///
+/// Where a method answers an error, memory was wanting, and the text is of no use.
 #[derive(Drop)]
 pub struct Writer {
     text: Vec<u8>,
@@ -89,7 +91,7 @@ impl Writer {
         self.put(hangs, digits.format(number).as_bytes(), Ending::Closed)
     }
 
-    /// Writes these bytes as a text between quotes.
+    /// Writes these bytes between quotes, with each quote among them doubled.
     #[tactic(auto, unfolding(crate::specs::Writing::put))]
     pub fn text(&mut self, text: &[u8]) -> Result<(), AllocError>
         ensures { OnOk result (self.new ≡ put self.old (Text text.now)) }
