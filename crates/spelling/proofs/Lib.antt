@@ -32,3 +32,4 @@ pub mod Laws
 mod ReadingLaws
 mod Signs
 mod WritingLaws
+mod Doubling
