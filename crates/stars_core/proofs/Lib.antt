@@ -10,3 +10,4 @@ pub mod ThinLaws
 pub mod Says
 pub mod ThreeTexts
 mod ThreeFiles
+mod Witness

@@ -39,14 +39,14 @@ site_spelled l0 s rest read =
     step a_number _ l3 s rest read3 (λ cpu l4 e4 read4.
     pass (the_word (codes "net")) _ l4 s rest read4 (λ l5 e5 read5.
     step a_number _ l5 s rest read5 (λ net l6 e6 read6.
-      let end = some_pair_parts _ s l6 rest read6 in
-      (the_word_reads (codes "site") l0 l1).0 e1
-      ∙ ap (λ l. Word (codes "site") ∷ l) ((a_word_reads l1 l2 name).0 e2
-      ∙ ap (λ l. Word name ∷ l) ((the_word_reads (codes "cpu") l2 l3).0 e3
-      ∙ ap (λ l. Word (codes "cpu") ∷ l) ((a_number_reads l3 l4 cpu).0 e4
-      ∙ ap (λ l. Number cpu ∷ l) ((the_word_reads (codes "net") l4 l5).0 e5
-      ∙ ap (λ l. Word (codes "net") ∷ l) ((a_number_reads l5 l6 net).0 e6)))))
-      ∙ ap (λ (p : SiteDef). catalogue_lexemes (Site p) ++ l6) end.0 ∙ ap (λ l. catalogue_lexemes (Site s) ++ l) end.1))))))
+    let end = some_pair_parts _ s l6 rest read6 in
+    (the_word_reads (codes "site") l0 l1).0 e1
+    ∙ ap (λ l. Word (codes "site") ∷ l) ((a_word_reads l1 l2 name).0 e2
+    ∙ ap (λ l. Word name ∷ l) ((the_word_reads (codes "cpu") l2 l3).0 e3
+    ∙ ap (λ l. Word (codes "cpu") ∷ l) ((a_number_reads l3 l4 cpu).0 e4
+    ∙ ap (λ l. Number cpu ∷ l) ((the_word_reads (codes "net") l4 l5).0 e5
+    ∙ ap (λ l. Word (codes "net") ∷ l) ((a_number_reads l5 l6 net).0 e6)))))
+    ∙ ap (λ (p : SiteDef). catalogue_lexemes (Site p) ++ l6) end.0 ∙ ap (λ l. catalogue_lexemes (Site s) ++ l) end.1))))))
 
 type_is : (word : List ℕ) (kind : ColType) → type_named word ≡ Some kind → word ≡ type_word kind
 type_is word kind named = at_tests (same_numbers word (codes "int")) (same_numbers word (codes "text")) refl refl
@@ -89,14 +89,14 @@ column_spelled l0 c rest read =
     step a_number _ l4 c rest read4 (λ width l5 e5 read5.
     pass (the_word (codes "distinct")) _ l5 c rest read5 (λ l6 e6 read6.
     step a_number _ l6 c rest read6 (λ distinct l7 e7 read7.
-      let end = some_pair_parts _ c l7 rest read7 in
-      (a_word_reads l0 l1 name).0 e1
-      ∙ ap (λ l. Word name ∷ l) ((a_word_reads l1 l2 word).0 e2 ∙ ap (λ l. Word word ∷ l) (given_same word kind l2 l3 e3).1 ∙ ap (λ b. Word b ∷ l3) (given_same word kind l2 l3 e3).0
-      ∙ ap (λ l. Word (type_word kind) ∷ l) ((the_word_reads (codes "width") l3 l4).0 e4
-      ∙ ap (λ l. Word (codes "width") ∷ l) ((a_number_reads l4 l5 width).0 e5
-      ∙ ap (λ l. Number width ∷ l) ((the_word_reads (codes "distinct") l5 l6).0 e6
-      ∙ ap (λ l. Word (codes "distinct") ∷ l) ((a_number_reads l6 l7 distinct).0 e7)))))
-      ∙ ap (λ (p : ColumnDef). column_lexemes p ++ l7) end.0 ∙ ap (λ l. column_lexemes c ++ l) end.1)))))))
+    let end = some_pair_parts _ c l7 rest read7 in
+    (a_word_reads l0 l1 name).0 e1
+    ∙ ap (λ l. Word name ∷ l) ((a_word_reads l1 l2 word).0 e2 ∙ ap (λ l. Word word ∷ l) (given_same word kind l2 l3 e3).1 ∙ ap (λ b. Word b ∷ l3) (given_same word kind l2 l3 e3).0
+    ∙ ap (λ l. Word (type_word kind) ∷ l) ((the_word_reads (codes "width") l3 l4).0 e4
+    ∙ ap (λ l. Word (codes "width") ∷ l) ((a_number_reads l4 l5 width).0 e5
+    ∙ ap (λ l. Number width ∷ l) ((the_word_reads (codes "distinct") l5 l6).0 e6
+    ∙ ap (λ l. Word (codes "distinct") ∷ l) ((a_number_reads l6 l7 distinct).0 e7)))))
+    ∙ ap (λ (p : ColumnDef). column_lexemes p ++ l7) end.0 ∙ ap (λ l. column_lexemes c ++ l) end.1)))))))
 
 -- a table of this one column
 abbrev of_one : TablePart → ColumnDef → TablePart
@@ -122,22 +122,24 @@ table_spelled l0 t rest read =
     pass (the_symbol (codes "(")) _ l10 t rest read10 (λ l11 e11 read11.
     step column_at _ l11 t rest read11 (λ column l12 e12 read12.
     pass (the_symbol (codes ")")) _ l12 t rest read12 (λ l13 e13 read13.
-      let end = some_pair_parts _ t l13 rest read13 in
-      ((the_word_reads (codes "table") l0 l1).0 e1
-      ∙ ap (λ l. Word (codes "table") ∷ l) ((a_word_reads l1 l2 name).0 e2
-      ∙ ap (λ l. Word name ∷ l) ((the_word_reads (codes "at") l2 l3).0 e3
-      ∙ ap (λ l. Word (codes "at") ∷ l) ((a_word_reads l3 l4 site).0 e4
-      ∙ ap (λ l. Word site ∷ l) ((the_word_reads (codes "rows") l4 l5).0 e5
-      ∙ ap (λ l. Word (codes "rows") ∷ l) ((a_number_reads l5 l6 rows).0 e6
-      ∙ ap (λ l. Number rows ∷ l) ((the_word_reads (codes "pages") l6 l7).0 e7
-      ∙ ap (λ l. Word (codes "pages") ∷ l) ((a_number_reads l7 l8 pages).0 e8
-      ∙ ap (λ l. Number pages ∷ l) ((the_word_reads (codes "file") l8 l9).0 e9
-      ∙ ap (λ l. Word (codes "file") ∷ l) ((a_text_reads l9 l10 file).0 e10
-      ∙ ap (λ l. Text file ∷ l) ((the_symbol_reads (codes "(") l10 l11).0 e11
-      ∙ ap (λ l. Symbol (codes "(") ∷ l) (column_spelled l11 column l12 e12
-      ∙ ap (λ l. column_lexemes column ++ l) ((the_symbol_reads (codes ")") l12 l13).0 e13))))))))))))
-      ∙ ap (λ (p : TablePart). catalogue_lexemes (Table p) ++ l13) end.0 ∙ ap (λ l. catalogue_lexemes (Table t) ++ l) end.1,
-      column, sym (ap (λ (p : TablePart). p.columns) end.0)))))))))))))))
+    let end = some_pair_parts _ t l13 rest read13 in (
+      (the_word_reads (codes "table") l0 l1).0 e1
+          ∙ ap (λ l. Word (codes "table") ∷ l) ((a_word_reads l1 l2 name).0 e2
+          ∙ ap (λ l. Word name ∷ l) ((the_word_reads (codes "at") l2 l3).0 e3
+          ∙ ap (λ l. Word (codes "at") ∷ l) ((a_word_reads l3 l4 site).0 e4
+          ∙ ap (λ l. Word site ∷ l) ((the_word_reads (codes "rows") l4 l5).0 e5
+          ∙ ap (λ l. Word (codes "rows") ∷ l) ((a_number_reads l5 l6 rows).0 e6
+          ∙ ap (λ l. Number rows ∷ l) ((the_word_reads (codes "pages") l6 l7).0 e7
+          ∙ ap (λ l. Word (codes "pages") ∷ l) ((a_number_reads l7 l8 pages).0 e8
+          ∙ ap (λ l. Number pages ∷ l) ((the_word_reads (codes "file") l8 l9).0 e9
+          ∙ ap (λ l. Word (codes "file") ∷ l) ((a_text_reads l9 l10 file).0 e10
+          ∙ ap (λ l. Text file ∷ l) ((the_symbol_reads (codes "(") l10 l11).0 e11
+          ∙ ap (λ l. Symbol (codes "(") ∷ l) (column_spelled l11 column l12 e12
+          ∙ ap (λ l. column_lexemes column ++ l) ((the_symbol_reads (codes ")") l12 l13).0 e13))))))))))))
+          ∙ ap (λ (p : TablePart). catalogue_lexemes (Table p) ++ l13) end.0 ∙ ap (λ l. catalogue_lexemes (Table t) ++ l) end.1,
+      column,
+      sym (ap (λ (p : TablePart). p.columns) end.0),
+    ))))))))))))))
 
 selection_read : (table column : List ℕ) (rest : List Lexeme) → selection_at table column (query_lexemes (only_column table column) ++ rest) ≡ Some (tt, rest)
 unfolding selection_at
@@ -151,12 +153,12 @@ selection_spelled table column l0 rest read =
     pass (the_symbol (codes ".")) _ l2 tt rest read2 (λ l3 e3 read3.
     pass (the_word column) _ l3 tt rest read3 (λ l4 e4 read4.
     pass (the_word (codes "from")) _ l4 tt rest read4 (λ l5 e5 read5.
-      (the_word_reads (codes "select") l0 l1).0 e1
-      ∙ ap (λ l. Word (codes "select") ∷ l) ((the_word_reads table l1 l2).0 e2
-      ∙ ap (λ l. Word table ∷ l) ((the_symbol_reads (codes ".") l2 l3).0 e3
-      ∙ ap (λ l. Symbol (codes ".") ∷ l) ((the_word_reads column l3 l4).0 e4
-      ∙ ap (λ l. Word column ∷ l) ((the_word_reads (codes "from") l4 l5).0 e5
-      ∙ ap (λ l. Word (codes "from") ∷ l) ((the_word_reads table l5 rest).0 read5))))))))))
+    (the_word_reads (codes "select") l0 l1).0 e1
+    ∙ ap (λ l. Word (codes "select") ∷ l) ((the_word_reads table l1 l2).0 e2
+    ∙ ap (λ l. Word table ∷ l) ((the_symbol_reads (codes ".") l2 l3).0 e3
+    ∙ ap (λ l. Symbol (codes ".") ∷ l) ((the_word_reads column l3 l4).0 e4
+    ∙ ap (λ l. Word column ∷ l) ((the_word_reads (codes "from") l4 l5).0 e5
+    ∙ ap (λ l. Word (codes "from") ∷ l) ((the_word_reads table l5 rest).0 read5))))))))))
 
 -- ---- whole statements
 

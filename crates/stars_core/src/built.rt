@@ -35,10 +35,7 @@ star JoinRoot(A stream, B stream, J preds) = give ACCESS_HEAP(A, J);
 ";
 
 // The statements of a text, in order.
-fn statement_list<'a>(
-    alloc: Global,
-    tokens: &'a [Token],
-) -> Result<Vec<Statement<'a>>, AllocError>
+fn statement_list<'a>(alloc: Global, tokens: &'a [Token]) -> Result<Vec<Statement<'a>>, AllocError>
     ensures { IfOk result (λ list. map part_of list.items ≡ parts tokens.now) }
 {
     statements(tokens).collect(alloc)
@@ -72,12 +69,7 @@ fn same_lexemes(source: &[u8], these: &[Token], other: &[u8], those: &[Token]) -
     }
 }
 
-fn same_statement(
-    source: &[u8],
-    this: &Statement<'_>,
-    other: &[u8],
-    that: &Statement<'_>,
-) -> bool
+fn same_statement(source: &[u8], this: &Statement<'_>, other: &[u8], that: &Statement<'_>) -> bool
     requires this { IsOf source.now this.now }
     requires that { IsOf other.now that.now }
     ensures { IsTrue result ↔ (said_of source.now this.now ≡ said_of other.now that.now) }
@@ -208,7 +200,12 @@ fn selects_the_column(source: &[u8], statements: &[Statement<'_>], catalogue: &C
     let table = the_table(catalogue);
     let column = the_column(table);
     !is_reserved(table.name.as_slice())
-        && selects(source, statements, table.name.as_slice(), column.name.as_slice())
+        && selects(
+            source,
+            statements,
+            table.name.as_slice(),
+            column.name.as_slice(),
+        )
 }
 
 /// What a query over this catalogue says, or the number of its first statement that has no reader.

@@ -6,7 +6,9 @@ ghost use Rattle.stars_core.specs.Shelves.{Composed, PlanRan};
 
 use crate::command::{find_command, word_at};
 use crate::read::fetch;
-use crate::{Answer, Command, Refusal, TextKind, judge_catalogue, judge_query, judge_rules, plan_query};
+use crate::{
+    Answer, Command, Refusal, TextKind, judge_catalogue, judge_query, judge_rules, plan_query,
+};
 use sb_outside::Shelf;
 use std::alloc::Global;
 

@@ -12,14 +12,14 @@ mod read;
 mod refusal;
 mod small;
 mod status;
-mod thin;
 mod texts;
+mod thin;
 mod top;
 
 pub use answer::Answer;
 pub use command::{Command, find_command};
 pub use judging::{judge_catalogue, judge_query, judge_rules};
-pub use laws::one_verdict;
+pub use laws::{done_says, one_reading, one_verdict, some_plan_is_told};
 pub use plan::plan_query;
 pub use refusal::{Refusal, TextKind};
 pub use status::{Found, Status};

@@ -186,12 +186,7 @@ fn second_table<'a>(source: &'a [u8], statements: &[Statement<'a>]) -> Option<Ta
 }
 
 // Whether the first statement selects this column of this table.
-pub fn selects(
-    source: &[u8],
-    statements: &[Statement<'_>],
-    table: &[u8],
-    column: &[u8],
-) -> bool
+pub fn selects(source: &[u8], statements: &[Statement<'_>], table: &[u8], column: &[u8]) -> bool
     requires { Every (IsOf source.now) statements.now }
     ensures { IsTrue result ↔ (whole_at (selection_at table.now column.now) 0 (said_by source.now statements.now) ≡ Some tt) }
 {
@@ -202,6 +197,7 @@ pub fn selects(
 }
 
 const MOST_NAME: usize = 64;
+
 const TOP: u64 = 1_000_000_000_000_000_000;
 
 fn is_built_site(site: &SiteWords<'_>) -> bool
@@ -216,7 +212,11 @@ pub fn built_site<'a>(source: &'a [u8], statements: &[Statement<'a>]) -> Option<
     ensures { Finds site_of (λ s. BeginsSite (said_by source.now statements.now) s) result }
 {
     let site = first_site(source, statements)?;
-    if is_built_site(&site) { Some(site) } else { None }
+    if is_built_site(&site) {
+        Some(site)
+    } else {
+        None
+    }
 }
 
 /// A table that has a reader, and the name of its file.

@@ -66,15 +66,18 @@ returns-clause-ran g c =
     c.in_ok-catalogue_text.ensures.goes c.in_ok-catalogue_text.ensures.fetched catalogue_ok in
     let query_ok = rw c.as_slice-3.ensures.value at c.in_ok-selection.ensures in
     let third = after_query (g.S.Shelf.state c.args.shelf.now) c.args.rules.now c.args.catalogue.now c.args.query.now (g.S.Shelf.state c.fetch-2.new.shelf) c.in_ok-rule_text.rule_text.items c.in_ok-catalogue_text.catalogue_text.items second (g.S.Shelf.state c.fetch-3.new.shelf) c.in_ok-tree.tree c.in_ok-query_text.query_text c.in_ok-selection.selection catalogue_ok
-    c.in_ok-query_text.ensures.goes c.in_ok-query_text.ensures.fetched query_ok in (third.quiet, (
-      c.in_ok-rule_text.rule_text.items,
-      c.in_ok-catalogue_text.catalogue_text.items,
-      c.in_ok-query_text.query_text.items,
-      record { held = third.held; accepted = third.accepted },
-      record {
-        rules = tiny_rules;
-        query = c.in_ok-selection.selection;
-        says = says c.in_ok-catalogue_text.catalogue_text.items c.in_ok-tree.tree catalogue_ok c.in_ok-query_text.query_text.items c.in_ok-selection.selection query_ok c.in_ok-rule_text.rule_text.items rules_ok;
-        answer = c.in_ok-answer.ensures;
-      },
-    ))
+    c.in_ok-query_text.ensures.goes c.in_ok-query_text.ensures.fetched query_ok in (
+      third.quiet,
+      (
+        c.in_ok-rule_text.rule_text.items,
+        c.in_ok-catalogue_text.catalogue_text.items,
+        c.in_ok-query_text.query_text.items,
+        record { held = third.held; accepted = third.accepted },
+        record {
+          rules = tiny_rules;
+          query = c.in_ok-selection.selection;
+          says = says c.in_ok-catalogue_text.catalogue_text.items c.in_ok-tree.tree catalogue_ok c.in_ok-query_text.query_text.items c.in_ok-selection.selection query_ok c.in_ok-rule_text.rule_text.items rules_ok;
+          answer = c.in_ok-answer.ensures;
+        },
+      ),
+    )
