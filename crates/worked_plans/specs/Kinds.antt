@@ -3,7 +3,6 @@
 use Rattle.std.specs.Prelude.{Bool, true, false, List, [], ◌∷◌, Option, Some, None, codes}
 use Rattle.star_model.specs.ValueCases as v
 use Rattle.star_model.specs.ConditionCases as c
-use Rattle.star_model.specs.PlanExprCases as e
 use Rattle.star_model.specs.declared.rules.ValueExpr.TheVariants as value
 use Rattle.star_model.specs.declared.rules.Condition.TheVariants as condition
 use Rattle.star_model.specs.declared.rules.Kind.TheVariants as kind

@@ -1,16 +1,13 @@
 -- Records of tables with the rows that they hold, and choices of rows.
-use Rattle.std.specs.Prelude.{◌≡◌, ℕ, Bool, true, false, List, [], ◌∷◌, ◌++◌, map, replicate, Option, Some, None, codes, pos, neg_ℤ}
+use Rattle.std.specs.Prelude.{◌≡◌, ℕ, Bool, List, [], ◌∷◌, ◌++◌, map, Some, None, codes, pos, neg_ℤ}
 use Rattle.star_model.specs.Data.{Record, table_rows}
-use Rattle.star_model.specs.Answers.{Data, Assignment, makes_true, is_in_range, is_below, comparison_holds, values_of_columns, is_earlier}
+use Rattle.star_model.specs.Answers.{Data, Assignment, makes_true, is_below, comparison_holds}
 use Rattle.star_model.specs.Predicates.{preds_in}
-use Rattle.star_model.specs.WellFormed.{is_name, is_number, is_integer, differ, is_there, is_operand}
-use Rattle.star_model.specs.Vectors.{same_numbers}
-use Rattle.star_model.specs.Numbers.{top}
+use Rattle.star_model.specs.WellFormed.{is_name, is_there}
 use Rattle.star_model.specs.declared.catalogue.Value.{Value}
 use Rattle.star_model.specs.declared.catalogue.Value.TheVariants as constant
 use Rattle.star_model.specs.declared.columns.Col.{Col}
 use Rattle.star_model.specs.declared.query.Cmp.TheVariants as cmp
-use Rattle.star_model.specs.declared.query.Operand.TheVariants as operand
 use Rattle.worked_plans.specs.Catalogues as catalogue
 use Rattle.worked_plans.specs.Queries as query
 

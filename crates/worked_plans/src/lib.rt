@@ -10,3 +10,4 @@ mod plans;
 mod rule_files;
 mod tables;
 mod values;
+mod well_formed;
