@@ -2,4 +2,5 @@ mod Root
 mod Only
 mod Accepted
 mod Formed
+mod Planned
 pub mod Laws

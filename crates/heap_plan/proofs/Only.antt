@@ -32,13 +32,13 @@ left : (a b : Bool) → (a && b) ≡ true → a ≡ true
 left true b h = refl
 left false b h = h
 
-fit : {A : Type 0} (o : Option A) (f : A → Bool) → option_map_or f o false ≡ true → (a : A) × (o ≡ Some a) × (f a ≡ true)
-fit None f h = cc
-fit (Some a) f h = (a, refl, h)
-
 right : (a b : Bool) → (a && b) ≡ true → b ≡ true
 right true b h = h
 right false b h = cc
+
+fit : {A : Type 0} (o : Option A) (f : A → Bool) → option_map_or f o false ≡ true → (a : A) × (o ≡ Some a) × (f a ≡ true)
+fit None f h = cc
+fit (Some a) f h = (a, refl, h)
 
 bind : {A B : Type 0} (f : A → Option B) (o : Option A) (b : B) → option_and_then f o ≡ Some b → (a : A) × (o ≡ Some a) × (f a ≡ Some b)
 bind f None b h = cc
@@ -48,13 +48,13 @@ chosen : {A : Type 0} (b : Bool) (o : Option A) (a : A) → (if b then o else No
 chosen true o a h = (refl, h)
 chosen false o a h = cc
 
-at_first : {A : Type 0} (x y : A) (n : ℕ) → slice_get (x ∷ []) n ≡ Some y → (n ≡ 0) × (x ≡ y)
-at_first x y zero h = (refl, cc)
-at_first x y (suc n) h = cc
-
 unchosen : {A : Type 0} (b : Bool) (o : Option A) (a : A) → (if b then None else o) ≡ Some a → o ≡ Some a
 unchosen true o a h = cc
 unchosen false o a h = h
+
+at_first : {A : Type 0} (x y : A) (n : ℕ) → slice_get (x ∷ []) n ≡ Some y → (n ≡ 0) × (x ≡ y)
+at_first x y zero h = (refl, cc)
+at_first x y (suc n) h = cc
 
 -- a list of one item has the number 1
 numbered_one : {A : Type 0} (x y : A) (n : ℕ) → numbered (x ∷ []) n ≡ Some y → (n ≡ 1) × (x ≡ y)

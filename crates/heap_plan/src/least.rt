@@ -30,10 +30,11 @@ pub struct LeastPlan {
     pub cost: Num,
     /// Cost units of each further production.
     pub rescan: Num,
-    /// Rows.
+    /// Estimated rows.
     pub card: Num,
 }
 
+/// The name of the root STAR of accesses.
 fn access_root(alloc: Global) -> Result<Name, AllocError>
     ensures { IfOk result (λ name. name ≡ codes "AccessRoot") }
 {

@@ -2,7 +2,7 @@ use Rattle.std.proofs.Common.{ℕ, List, ap, ◌∙◌, get_or}
 use Rattle.star_model.specs.Numbers.{cut_product}
 use Rattle.star_model.specs.declared.catalogue.SiteDef.{SiteDef}
 use Rattle.star_model.specs.declared.catalogue.TableDef.{TableDef}
-use Rattle.heap_plan.proofs.Laws.{planned}
+use Rattle.heap_plan.proofs.Planned.{planned}
 use Rattle.heap_plan.proofs.least.least_plan.Goals as goal
 
 pub returns : goal.returns
