@@ -26,6 +26,7 @@ the_word_reads wanted lexemes rest = (to lexemes, λ is. rw is (rw (same_self wa
         let parts = some_pair_parts tt tt left rest (rw same at read) in
         ap (λ b. Word b ∷ left) (same_are bytes wanted same) ∙ ap (λ l. Word wanted ∷ l) parts.1
     at_test bytes left false same read = let none = rw same at read in absurd cc
+
     to : (lexemes : List Lexeme) → the_word wanted lexemes ≡ Some (tt, rest) → lexemes ≡ Word wanted ∷ rest
     to [] read = absurd cc
     to (Word bytes ∷ left) read = at_test bytes left (same_numbers bytes wanted) refl read
@@ -41,6 +42,7 @@ the_symbol_reads wanted lexemes rest = (to lexemes, λ is. rw is (rw (same_self 
         let parts = some_pair_parts tt tt left rest (rw same at read) in
         ap (λ b. Symbol b ∷ left) (same_are bytes wanted same) ∙ ap (λ l. Symbol wanted ∷ l) parts.1
     at_test bytes left false same read = let none = rw same at read in absurd cc
+
     to : (lexemes : List Lexeme) → the_symbol wanted lexemes ≡ Some (tt, rest) → lexemes ≡ Symbol wanted ∷ rest
     to [] read = absurd cc
     to (Word bytes ∷ left) read = absurd cc

@@ -88,7 +88,10 @@ impl<'a> Cursor<'a> {
         requires { AreTokensOf source.now tokens.now }
         ensures { result ≡ lexemes_of source.now tokens.now }
     {
-        Cursor { source, left: tokens }
+        Cursor {
+            source,
+            left: tokens,
+        }
     }
 
     /// Whether nothing is left.
