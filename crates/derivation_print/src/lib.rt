@@ -1,13 +1,7 @@
-// A library with one function.
+//! The text of a derivation.
 #![tactic(auto)]
 
-ghost use Rattle.std.specs.Prelude.{◌≡◌};
-ghost use Rattle.derivation_print.specs.Echo.{echo_of};
+mod members;
+mod print;
 
-// The `ensures` clause is the contract: what `echo` returns is `echo_of` of its argument, a definition
-// in `specs/Echo.antt`, which a caller's clause can cite too.
-pub fn echo(x: usize) -> usize
-    ensures { result ≡ echo_of x }
-{
-    x
-}
+pub use print::print_derivation;

@@ -77,7 +77,7 @@ with_tables whole done (t ∷ ts) rest d (well.more _ _ p later) =
     rw (site_below whole t.site.0 p.site d)
     (with_tables whole (done ++ t ∷ []) ts rest d later ∙ ap (λ (l : List TableDef). with_statements (record { sites = whole.sites; tables = l; indexes = [] }) rest) (append_assoc done (t ∷ []) ts))
 
-each_at : {A : Type 0} {P : A → Type 0} (xs : List A) (n : ℕ) → Each P xs → n < length xs → (x : A) × (slice_get xs n ≡ Some x) × P x
+pub each_at : {A : Type 0} {P : A → Type 0} (xs : List A) (n : ℕ) → Each P xs → n < length xs → (x : A) × (slice_get xs n ≡ Some x) × P x
 each_at [] n h less = absurd (omega arith)
 each_at (x ∷ xs) zero (well.more _ _ p later) less = (x, refl, p)
 each_at (x ∷ xs) (suc n) (well.more _ _ p later) less = each_at xs n later (omega arith)

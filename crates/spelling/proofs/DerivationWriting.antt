@@ -1,14 +1,13 @@
 -- The canonical text of a derivation spells it.
-use Rattle.std.proofs.Common.{◌≡◌, ℕ, zero, suc, ◌+◌, ◌≤◌, ◌<◌, ◌^◌, List, [], ◌∷◌, ◌++◌, map, filter, cond, Bool, true, false, Option, Some, None, codes, refl, arith, le-add_right}
+use Rattle.std.proofs.Common.{ℕ, zero, suc, ◌+◌, ◌≤◌, ◌<◌, List, [], ◌∷◌, ◌++◌, map, filter, cond, Bool, true, false, Option, Some, None, codes, refl, arith}
 use Rattle.std.specs.List.{range_with_len}
-use Rattle.sb_text.specs.Forms.{IsWord}
 use Rattle.star_model.specs.Sets.{places, has, members}
 use Rattle.star_model.specs.declared.plans.GlueOp.{GlueOp}
 use Rattle.star_model.specs.declared.plans.GlueOp.TheVariants as glue
 use Rattle.star_model.specs.declared.rules.Flavour.{Flavour}
 use Rattle.star_model.specs.declared.rules.Flavour.TheVariants as flavour
 use Rattle.star_model.specs.declared.derivations.Deriv.{Deriv}
-use Rattle.spelling.specs.Lexemes.{Lexeme, Word, Number, left_brace, right_brace, comma, joined_by, Every}
+use Rattle.spelling.specs.Lexemes.{Word, Number, right_brace, comma, joined_by, Every}
 use Rattle.spelling.specs.Layout.{IsLexeme}
 use Rattle.spelling.specs.Flavours.{flavour_word}
 use Rattle.spelling.specs.Derivations.{Step, Glue, Goal, Reference, Operator, glue_word, set_lexemes, split_lexemes, statement_of, IsCounted, IsStep, steps, statements_of, canonical, IsWritable, NamesWord, SpellsDerivation}
@@ -37,21 +36,23 @@ a_flavour flavour.JoinHash = given_word (codes "JOIN_HASH") refl
 
 -- ---- sets
 
-kept_below : (test : ℕ → Bool) (bound k n : ℕ) → k + n ≤ bound → Every (λ m. m < bound) (filter test (range_with_len k n))
+pub kept_below : (test : ℕ → Bool) (bound k n : ℕ) → k + n ≤ bound → Every (λ m. m < bound) (filter test (range_with_len k n))
 kept_below test bound k zero low = tt
 kept_below test bound k (suc n) low = at (test k) (kept_below test bound (k + 1) n (omega arith)) where
   at : (b : Bool) → Every (λ m. m < bound) (filter test (range_with_len (k + 1) n)) → Every (λ m. m < bound) (cond b (k ∷ filter test (range_with_len (k + 1) n)) (filter test (range_with_len (k + 1) n)))
   at true later = (omega arith, later)
   at false later = later
 
-members_below : (s : ℕ) → Every (λ m. m < 32) (members s)
+pub members_below : (s : ℕ) → Every (λ m. m < 32) (members s)
 unfolding members places
 members_below s = kept_below (has s) 32 0 32 (omega arith)
 
 formed_set : (s : ℕ) → Formed (set_lexemes s)
-formed_set s =
-    (given_symbol (codes "{") refl refl, both (joined_by comma (map (λ n. Number (n + 1) ∷ []) (members s))) (right_brace ∷ [])
-      (formed_series (λ n. Number (n + 1) ∷ []) (λ m. m < 32) comma a_comma (λ n low. (omega arith, tt)) (members s) (members_below s)) (given_symbol (codes "}") refl refl, tt))
+formed_set s = (
+  given_symbol (codes "{") refl refl,
+  both (joined_by comma (map (λ n. Number (n + 1) ∷ []) (members s))) (right_brace ∷ [])
+      (formed_series (λ n. Number (n + 1) ∷ []) (λ m. m < 32) comma a_comma (λ n low. (omega arith, tt)) (members s) (members_below s)) (given_symbol (codes "}") refl refl, tt),
+)
 
 formed_split : (split : Option (ℕ × ℕ)) → Formed (split_lexemes split)
 formed_split None = tt
@@ -59,14 +60,16 @@ formed_split (Some parts) = (given_word (codes "split") refl, both (set_lexemes 
 
 formed_step : (x : Step) → IsStep x → NamesWord x → Formed (statement_of x)
 formed_step (Glue chain) h w = (given_word (codes "glue") refl, map_every (λ o. Word (glue_word o)) IsLexeme (λ _. Unit {0}) (λ o _. a_glue_word o) chain (anything chain))
-formed_step (Goal goal split) h w =
-    (given_word (codes "goal") refl, both (set_lexemes goal.tables) (Word (codes "pushed") ∷ (set_lexemes goal.pushed ++ split_lexemes split)) (formed_set goal.tables)
-      (given_word (codes "pushed") refl, both (set_lexemes goal.pushed) (split_lexemes split) (formed_set goal.pushed) (formed_split split)))
+formed_step (Goal goal split) h w = (
+  given_word (codes "goal") refl,
+  both (set_lexemes goal.tables) (Word (codes "pushed") ∷ (set_lexemes goal.pushed ++ split_lexemes split)) (formed_set goal.tables)
+      (given_word (codes "pushed") refl, both (set_lexemes goal.pushed) (split_lexemes split) (formed_set goal.pushed) (formed_split split)),
+)
 formed_step (Reference star alternative values) h w =
     (given_word (codes "ref") refl, (w, (omega (arith, h.0.1), map_every Number IsLexeme IsCounted (λ n c. omega (arith, c.1)) values h.2)))
 formed_step (Operator f) h w = (a_flavour f, tt)
 
-formed_steps : (xs : List Step) → Every IsStep xs → Every NamesWord xs → Every Formed (map statement_of xs)
+pub formed_steps : (xs : List Step) → Every IsStep xs → Every NamesWord xs → Every Formed (map statement_of xs)
 formed_steps [] h w = tt
 formed_steps (x ∷ xs) h w = (formed_step x h.0 w.0, formed_steps xs h.1 w.1)
 

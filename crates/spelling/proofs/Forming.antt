@@ -1,16 +1,15 @@
 -- What is written of a tree is made of lexemes that can be laid out.
-use Rattle.std.proofs.Common.{◌≡◌, ℕ, zero, suc, ◌+◌, ◌≤◌, ◌<◌, ◌^◌, Bool, true, false, ◌&&◌, ◌||◌, ◌==◌, nat_eq, nat_le, List, [], ◌∷◌, ◌++◌, map, length, Option, Some, None, codes, refl, sym, ap, ◌∙◌, subst, arith, eqb-true, leb-true}
+use Rattle.std.proofs.Common.{◌≡◌, ℕ, Bool, true, false, ◌&&◌, List, [], ◌∷◌, ◌++◌, map, codes, refl, sym, ap, ◌∙◌}
 use Rattle.std.proofs.lemmas.Bool.{and_parts}
 use Rattle.std.proofs.lemmas.List.Sums.{AllPass-from_list_all}
 use Rattle.std.proofs.lemmas.Map.Views.{Contains-from_any}
 use Rattle.std.specs.List.{list_all, list_any}
 use Rattle.std.specs.Cmp.Lexicographic.{same_text}
 use Rattle.sb_text.specs.Bytes.{begins_word, is_in_word}
-use Rattle.sb_text.specs.Forms.{IsWord, IsSymbol, symbols}
+use Rattle.sb_text.specs.Forms.{IsWord, symbols}
 use Rattle.star_model.specs.Vectors.{same_numbers}
-use Rattle.spelling.specs.Lexemes.{Lexeme, Word, Number, Text, Symbol, comma, left_bracket, right_bracket, joined_by, bracketed, Every}
+use Rattle.spelling.specs.Lexemes.{Lexeme, Symbol, comma, left_bracket, right_bracket, joined_by, bracketed, Every}
 use Rattle.spelling.specs.Layout.{IsLexeme}
-use Rattle.spelling.proofs.Statements.{same_self}
 
 -- ---- words and symbols that are given byte by byte
 
@@ -44,9 +43,20 @@ a_right_bracket = given_symbol (codes ")") refl refl
 abbrev pub Formed : List Lexeme → Type 0
 Formed xs = Every IsLexeme xs
 
+pub every_both : {A : Type 0} (P : A → Type 0) (xs ys : List A) → Every P xs → Every P ys → Every P (xs ++ ys)
+every_both P [] ys h k = k
+every_both P (x ∷ xs) ys h k = (h.0, every_both P xs ys h.1 k)
+
+pub every_front : {A : Type 0} (P : A → Type 0) (xs ys : List A) → Every P (xs ++ ys) → Every P xs
+every_front P [] ys h = tt
+every_front P (x ∷ xs) ys h = (h.0, every_front P xs ys h.1)
+
+pub every_back : {A : Type 0} (P : A → Type 0) (xs ys : List A) → Every P (xs ++ ys) → Every P ys
+every_back P [] ys h = h
+every_back P (x ∷ xs) ys h = every_back P xs ys h.1
+
 pub both : (xs ys : List Lexeme) → Formed xs → Formed ys → Formed (xs ++ ys)
-both [] ys h k = k
-both (x ∷ xs) ys h k = (h.0, both xs ys h.1 k)
+both xs ys h k = every_both IsLexeme xs ys h k
 
 pub formed_series : {A : Type 0} (spell : A → List Lexeme) (Ok : A → Type 0) (between : Lexeme) → IsLexeme between → ((x : A) → Ok x → Formed (spell x))
     → (xs : List A) → Every Ok xs → Formed (joined_by between (map spell xs))
@@ -61,12 +71,3 @@ formed_bracketed xs h = (a_left_bracket, both xs (right_bracket ∷ []) h (a_rig
 pub map_every : {A B : Type 0} (f : A → B) (P : B → Type 0) (Ok : A → Type 0) → ((x : A) → Ok x → P (f x)) → (xs : List A) → Every Ok xs → Every P (map f xs)
 map_every f P Ok g [] h = tt
 map_every f P Ok g (x ∷ xs) h = (g x h.0, map_every f P Ok g xs h.1)
-
--- front and back of a list that is formed
-pub front_of : (xs ys : List Lexeme) → Formed (xs ++ ys) → Formed xs
-front_of [] ys h = tt
-front_of (x ∷ xs) ys h = (h.0, front_of xs ys h.1)
-
-pub back_of : (xs ys : List Lexeme) → Formed (xs ++ ys) → Formed ys
-back_of [] ys h = h
-back_of (x ∷ xs) ys h = back_of xs ys h.1

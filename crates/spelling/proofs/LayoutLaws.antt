@@ -146,7 +146,7 @@ drop_front : (front after : List ℕ) → drop (length front) (front ++ after) �
 drop_front [] after = refl
 drop_front (b ∷ front) after = drop_front front after
 
-behind : (source : List ℕ) (at : ℕ) (front after : List ℕ) → drop at source ≡ front ++ after → drop (at + length front) source ≡ after
+pub behind : (source : List ℕ) (at : ℕ) (front after : List ℕ) → drop at source ≡ front ++ after → drop (at + length front) source ≡ after
 behind source at front after is = sym (drop-drop (length front) at source) ∙ ap (λ (l : List ℕ). drop (length front) l) is ∙ drop_front front after
 
 -- a token at a place, and the lexeme that it says
@@ -213,7 +213,7 @@ follows_gap x xs after =
 
 -- these bytes are read as the tokens of a statement and its `;`
 record Spaced (source : List ℕ) (at : ℕ) (xs : List Lexeme) (bytes after : List ℕ) (later : List Token) (stop : Option ℕ) : Type 0 where
-  tokens : List Token
+  pub tokens : List Token
   last : Token
   reads : Reads at (bytes ++ after) (tokens ++ last ∷ later) stop
   inside : AllPass is_inside tokens
@@ -268,10 +268,10 @@ reads_line (x ∷ xs) source at after later stop all is behind_it =
 
 -- ---- the whole layout
 
-record Laid (source : List ℕ) (at : ℕ) (statements : List (List Lexeme)) : Type 0 where
-  tokens : List Token
-  reads : Reads at (layout statements) tokens None
-  says : map (λ (part : Part). (lexemes_of source part.0, part.1)) (parts tokens) ≡ map ended statements
+pub record Laid (source : List ℕ) (at : ℕ) (statements : List (List Lexeme)) : Type 0 where
+  pub tokens : List Token
+  pub reads : Reads at (layout statements) tokens None
+  pub says : map (λ (part : Part). (lexemes_of source part.0, part.1)) (parts tokens) ≡ map ended statements
 
 layout-cons : (statement : List Lexeme) (later : List (List Lexeme)) → layout (statement ∷ later) ≡ spaced (with_end statement) ++ (10 ∷ layout later)
 unfolding layout
@@ -281,7 +281,7 @@ laid_none : (source : List ℕ) (at : ℕ) → Laid source at []
 unfolding layout
 laid_none source at = record { tokens = []; reads = Reads.at_end; says = refl }
 
-lay : (statements : List (List Lexeme)) (source : List ℕ) (at : ℕ) → Every (Every IsLexeme) statements → drop at source ≡ layout statements → Laid source at statements
+pub lay : (statements : List (List Lexeme)) (source : List ℕ) (at : ℕ) → Every (Every IsLexeme) statements → drop at source ≡ layout statements → Laid source at statements
 lay [] source at all is = laid_none source at
 lay (s ∷ later) source at all is =
     let S = spaced (with_end s) in

@@ -16,14 +16,20 @@ mod ValueReading
 mod ConditionLaws
 mod FormulaLaws
 mod RuleLaws
-mod Thin
+mod SmallestTexts
 mod Written
 mod LayoutLaws
 mod Formed
 mod Forming
+mod FormulaFitting
+mod CatalogueCanonical
 mod DerivationWriting
+mod Commented
+mod RuleBodies
+mod RootWriting
 mod RuleWriting
 pub mod Laws
 mod ReadingLaws
 mod Signs
 mod WritingLaws
+mod Doubling

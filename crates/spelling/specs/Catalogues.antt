@@ -1,5 +1,5 @@
 -- Which text spells a catalogue. The statements name what they use; what they name was defined before.
-use Rattle.std.specs.Prelude.{◌≡◌, ℕ, List, [], ◌∷◌, ◌++◌, map, Option, Some, option_and_then, codes}
+use Rattle.std.specs.Prelude.{◌≡◌, ℕ, List, [], ◌∷◌, ◌++◌, map, Option, Some, option_and_then, slice_get, unwrap_or, codes}
 use Rattle.star_model.specs.declared.catalogue.Catalogue.{Catalogue}
 use Rattle.star_model.specs.declared.catalogue.SiteDef.{SiteDef}
 use Rattle.star_model.specs.declared.catalogue.ColumnDef.{ColumnDef}
@@ -7,7 +7,6 @@ use Rattle.star_model.specs.declared.catalogue.TableDef.{TableDef}
 use Rattle.star_model.specs.declared.catalogue.ColType.{ColType}
 use Rattle.star_model.specs.declared.catalogue.ColType.TheVariants as type
 use Rattle.star_model.specs.declared.catalogue.IndexDef.{IndexDef}
-use Rattle.std.specs.Prelude.{slice_get, unwrap_or}
 use Rattle.std.specs.Option.{option_map_or}
 use Rattle.spelling.specs.Lexemes.{Lexeme, Word, Number, Text, IsStatements, comma, joined_by, bracketed, Every, HasItem}
 use Rattle.spelling.specs.Layout.{layout}

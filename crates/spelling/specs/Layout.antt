@@ -47,6 +47,10 @@ unfoldable pub layout : List (List Lexeme) → List ℕ
 layout [] = []
 layout (statement ∷ later) = line statement ++ layout later
 
+-- a text behind a comment on a line of its own
+abbrev pub commented : List ℕ → List ℕ → List ℕ
+commented comment text = 35 ∷ (comment ++ 10 ∷ text)
+
 -- ---- which lexemes the statements of a text can have
 
 -- a text between quotes holds any bytes, and `;` ends a statement

@@ -45,7 +45,8 @@ statements_in text = map (λ part. (lexemes_of text part.0, part.1)) (parts (lex
 abbrev pub ended : List Lexeme → MaybeEnded
 ended statement = (statement, true)
 
--- All bytes of the text are tokens and what stands between them, and these are its statements, each ended by `;`.
+-- All bytes of the text are tokens and what stands between them, and these are its statements, each ended by `;`. How deep their
+-- brackets nest makes no difference.
 pub record IsStatements (text : List ℕ) (statements : List (List Lexeme)) : Type 0 where
   pub all_tokens : (lexed text).1 ≡ None
   pub are : statements_in text ≡ map ended statements

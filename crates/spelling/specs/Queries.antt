@@ -1,6 +1,5 @@
 -- Which text spells a query over a catalogue.
-use Rattle.std.specs.Prelude.{◌≡◌, ℕ, false, List, [], ◌∷◌, ◌++◌, map, Option, Some, None, option_map, codes, pos, neg_ℤ, slice_get}
-use Rattle.std.specs.Prelude.{unwrap_or}
+use Rattle.std.specs.Prelude.{◌≡◌, ℕ, false, List, [], ◌∷◌, ◌++◌, map, Option, Some, None, option_map, codes, pos, neg_ℤ, slice_get, unwrap_or}
 use Rattle.star_model.specs.declared.catalogue.Catalogue.{Catalogue}
 use Rattle.star_model.specs.declared.catalogue.Value.{Value}
 use Rattle.star_model.specs.declared.catalogue.Value.TheVariants as value
@@ -28,6 +27,7 @@ pub record Item : Type 0 where
   pub table : List ℕ
   pub name : Option (List ℕ)
 
+-- a number, a number behind a minus sign, or a text
 pub data Constant : Type 0 where
   Whole : ℕ → Constant
   Negative : ℕ → Constant

@@ -2,20 +2,27 @@
 
 ghost use Rattle.std.specs.Prelude.{◌≡◌, ◌↔◌, ℕ, List, [], ◌∷◌, ◌++◌, map, true, None, Some};
 ghost use Rattle.sb_text.specs.declared.token.Token.{Token};
+ghost use Rattle.std.specs.List.{AllPass};
+ghost use Rattle.sb_text.specs.Front.{in_comment};
 ghost use Rattle.sb_text.specs.Tokens.{lexed};
 ghost use Rattle.sb_text.specs.Statements.{parts};
 ghost use Rattle.spelling.specs.Lexemes.{Lexeme, Word, Number, Text, Symbol, IsStatements, lexemes_of, HasItem, Every};
-ghost use Rattle.spelling.specs.Layout.{line, layout, IsLexeme};
+ghost use Rattle.spelling.specs.Layout.{line, layout, commented, IsLexeme};
 ghost use Rattle.spelling.specs.Reading.{the_word, the_symbol, a_word, a_number, a_text};
 ghost use Rattle.spelling.specs.Writing.{Written, whole, put, puts, ended, lines};
-ghost use Rattle.spelling.specs.Derivations.{SpellsDerivation};
+ghost use Rattle.spelling.specs.Derivations as derivation;
+ghost use Rattle.spelling.specs.Derivations.{steps, NamesWord, IsWritable, SpellsDerivation};
+ghost use Rattle.spelling.specs.Catalogues as catalogue;
+ghost use Rattle.spelling.specs.Rules as rule_file;
 ghost use Rattle.spelling.specs.Catalogues.{CatalogueStatement, catalogue_of, catalogue_statements, Site, Table, TablePart, table_from, catalogue_lexemes, SpellsCatalogueStatement, SpellsCatalogue};
 ghost use Rattle.spelling.specs.Queries.{QueryStatement, only_column, query_lexemes, IsFree, SpellsQueryStatement, SpellsQuery};
 ghost use Rattle.spelling.specs.Formulas.{SpellsFormula, formula_lexemes};
-ghost use Rattle.spelling.specs.Rules.{SpellsStar, SpellsFormulaDef, formula_def_lexemes, rule_lexemes, SpellsRules};
+ghost use Rattle.spelling.specs.Rules.{SpellsStar, SpellsFormulaDef, formula_def_lexemes, rule_lexemes, SpellsRules, KeepsCounts};
 ghost use Rattle.spelling.specs.Tiny.{tiny_lexemes, tiny_rules};
 ghost use Rattle.star_model.specs.Vectors.{same_numbers};
-ghost use Rattle.star_model.specs.WellFormed.{WellFormedCatalogue};
+ghost use Rattle.star_model.specs.WellFormed.{WellFormedCatalogue, WellFormedQuery};
+ghost use Rattle.star_model.specs.Derivations.{IsRoot};
+ghost use Rattle.star_model.specs.declared.plans.Props.{Props};
 ghost use Rattle.star_model.specs.declared.catalogue.Catalogue.{Catalogue};
 ghost use Rattle.star_model.specs.declared.catalogue.SiteDef.{SiteDef};
 ghost use Rattle.star_model.specs.declared.catalogue.TableDef.{TableDef};
@@ -110,10 +117,34 @@ pub fn rule_files_are_written()
     ensures { (text : List ℕ) (rules : RuleFile) → SpellsRules text rules → (other : List ℕ) → IsStatements other (rule_lexemes rules) → SpellsRules other rules }
 {}
 
+/// The canonical text of a derivation spells it where it can be written and its STARs are named by words, and where any text spells
+/// it; that of a catalogue where it is well formed; and that of a rule file where any text spells it.
+pub fn canonical_texts_spell()
+    ensures derivation { (tree : Deriv) → IsWritable tree → Every NamesWord (steps tree) → SpellsDerivation (derivation.canonical tree) tree }
+    ensures spelled_derivation { (text : List ℕ) (tree : Deriv) → SpellsDerivation text tree → SpellsDerivation (derivation.canonical tree) tree }
+    ensures catalogue { (c : Catalogue) → WellFormedCatalogue c → SpellsCatalogue (catalogue.canonical c) c }
+    ensures rules { (text : List ℕ) (rules : RuleFile) → SpellsRules text rules → SpellsRules (rule_file.canonical rules) rules }
+{}
+
+/// A comment on a line of its own before a canonical text makes no difference.
+pub fn comments_make_no_difference()
+    ensures any { (line : List ℕ) (statements : List (List Lexeme)) → AllPass in_comment line → Every (Every IsLexeme) statements → IsStatements (commented line (layout statements)) statements }
+    ensures derivation { (line : List ℕ) (tree : Deriv) → AllPass in_comment line → IsWritable tree → Every NamesWord (steps tree) → SpellsDerivation (commented line (derivation.canonical tree)) tree }
+{}
+
+/// A root derivation of a rule file that a text spells can be written, where no STAR has more alternatives than a derivation can
+/// name and no alternative more than two for-all clauses. So its canonical text spells it, behind a comment too.
+pub fn root_derivations_are_written()
+    ensures writable { (q : Query) (rules : RuleFile) → WellFormedQuery q → (text : List ℕ) → SpellsRules text rules → KeepsCounts rules → (tree : Deriv) (v : Props) → IsRoot q rules tree v → IsWritable tree × Every NamesWord (steps tree) }
+    ensures spelled { (q : Query) (rules : RuleFile) → WellFormedQuery q → (text : List ℕ) → SpellsRules text rules → KeepsCounts rules → (tree : Deriv) (v : Props) → IsRoot q rules tree v
+        → (line : List ℕ) → AllPass in_comment line → SpellsDerivation (commented line (derivation.canonical tree)) tree }
+{}
+
 /// What the smallest texts spell: the smallest rule file that is accepted, one site with one table at it, and a query for the
 /// only column of the only table.
 pub fn smallest_texts_spell()
     ensures rules { (text : List ℕ) → IsStatements text tiny_lexemes → SpellsRules text tiny_rules }
+    ensures counts { KeepsCounts tiny_rules }
     ensures catalogue { (text : List ℕ) (s : SiteDef) (t : TablePart) → t.site ≡ s.name → HasItem t.columns → IsStatements text (catalogue_lexemes (Site s) ∷ catalogue_lexemes (Table t) ∷ [])
         → SpellsCatalogue text (record { sites = s ∷ []; tables = table_from 0 t ∷ []; indexes = [] }) }
     ensures query { (catalogue : Catalogue) (text : List ℕ) (t : TableDef) (c : ColumnDef) → catalogue.tables ≡ t ∷ [] → t.columns ≡ c ∷ [] → IsFree t.name

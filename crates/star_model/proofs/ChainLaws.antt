@@ -4,7 +4,7 @@ use Rattle.std.specs.Prelude.{Some, option_and_then}
 use Rattle.std.proofs.lemmas.Bool.{eqb-true}
 use Rattle.star_model.proofs.BoolLaws.{both, and}
 use Rattle.star_model.proofs.BetterLaws.{parts, begins_trans, temp_trans}
-use Rattle.star_model.proofs.ExchangeLaws.{has_price, if_some, exchangeable}
+use Rattle.star_model.proofs.ExchangeLaws.{has_price, if_some, operators_exchange}
 use Rattle.star_model.proofs.JudgeLaws.{bind}
 use Rattle.star_model.specs.Costs.{formula_of}
 use Rattle.star_model.specs.Vectors.{is_at, is_better, satisfies}
@@ -46,7 +46,7 @@ chains_exchange q costs pass r [] u v h w e = (u, refl, subst (λ x. is_better u
     some_is a b e = cc
 chains_exchange q costs pass r (o ∷ os) u v h w e =
     let a = bind (chain_vector q costs r os) (step q costs (op_of r o) (v ∷ [])) w e in
-    let b = exchangeable q costs pass (op_of r o) (u ∷ []) (v ∷ []) (h, tt) a.0 a.1 in
+    let b = operators_exchange q costs pass (op_of r o) (u ∷ []) (v ∷ []) (h, tt) a.0 a.1 in
     let next : MayStandFor q b.0 a.0 = (b.2, step_card q costs (op_of r o) (u ∷ []) b.0 b.1, step_card q costs (op_of r o) (v ∷ []) a.0 a.1) in
     let c = chains_exchange q costs pass r os b.0 a.0 next w a.2 in
     (c.0, ap (option_and_then (chain_vector q costs r os)) b.1 ∙ c.1, c.2)

@@ -2,12 +2,12 @@
 use Rattle.std.proofs.Common.{◌≡◌, ℕ, ◌<◌, Bool, true, false, not, ◌||◌, refl, sym, ◌↔◌}
 use Rattle.std.specs.Prelude.{Some}
 pub use Rattle.star_model.proofs.NumberLaws.{sum-cut, difference-cut, product-cut, quotient-cut, sum-le, difference-le, product-le, quotient-le, sum-exact, difference-exact, product-exact, quotient-exact, quotient_enough, quotient_least}
-pub use Rattle.star_model.proofs.SetLaws.{has-union, has-meet, has-minus, has-single, has-set_of, has-above, same_set, union-lt, meet-lt, minus-lt, single-lt, set_of-lt}
+pub use Rattle.star_model.proofs.SetLaws.{has-zero, has-union, has-meet, has-minus, has-single, has-set_of, has-above, same_set, union-lt, meet-lt, minus-lt, single-lt, set_of-lt}
 pub use Rattle.star_model.proofs.SplitLaws.{split_once, split_only}
 pub use Rattle.star_model.proofs.MonotoneLaws.{monotone}
 pub use Rattle.star_model.proofs.OffendLaws.{passes_where}
-pub use Rattle.star_model.proofs.BetterLaws.{better_same, better_trans, better_both}
-pub use Rattle.star_model.proofs.ExchangeLaws.{exchangeable}
+pub use Rattle.star_model.proofs.BetterLaws.{better_reflexive, better_transitive, better_antisymmetric}
+pub use Rattle.star_model.proofs.ExchangeLaws.{operators_exchange}
 pub use Rattle.star_model.proofs.ChainLaws.{step_card, vector_card, chains_exchange, better_satisfies}
 pub use Rattle.star_model.proofs.KindLaws.{means}
 pub use Rattle.star_model.proofs.CostLaws.{formula_of-push}

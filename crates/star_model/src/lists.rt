@@ -71,6 +71,13 @@ impl Model for Bytes {
 }
 
 impl Bytes {
+    /// These bytes. It takes no memory.
+    pub fn from_vec(items: Vec<u8>) -> Bytes
+        ensures { result ≡ items.items }
+    {
+        Bytes { items }
+    }
+
     /// No bytes. It takes no memory.
     pub fn new(alloc: Global) -> Bytes
         ensures { result ≡ [] }
@@ -126,6 +133,15 @@ impl Model for Name {
 }
 
 impl Name {
+    /// The name of these letters.
+    pub fn from_slice(alloc: Global, letters: &[u8]) -> Result<Name, AllocError>
+        ensures { IfOk result (λ name. name ≡ letters.now) }
+    {
+        Ok(Name {
+            letters: Vec::from_slice(alloc, letters)?,
+        })
+    }
+
     /// The empty name. It takes no memory.
     pub fn new(alloc: Global) -> Name
         ensures { result ≡ [] }

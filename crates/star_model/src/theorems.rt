@@ -59,6 +59,7 @@ pub fn quotients_round_up()
 
 /// What is a member of a set that an operation gives.
 pub fn sets_go_by_members()
+    ensures empty { (n : ℕ) → has 0 n ≡ false }
     ensures union { (s t n : ℕ) → has (union s t) n ≡ (has s n || has t n) }
     ensures meet { (s t n : ℕ) → has (meet s t) n ≡ (has s n && has t n) }
     ensures minus { (s t n : ℕ) → t < 2 ^ 32 → n < 32 → has (minus s t) n ≡ (has s n && not (has t n)) }

@@ -1,19 +1,19 @@
 -- What the thin readers read is spelled, and what is spelled is read.
-use Rattle.std.proofs.Common.{◌≡◌, ℕ, Bool, true, false, List, [], ◌∷◌, ◌++◌, Option, Some, None, refl, ap, sym, ◌∙◌, subst, codes}
+use Rattle.std.proofs.Common.{◌≡◌, ◌≤◌, length, arith, ℕ, Bool, true, false, List, [], ◌∷◌, ◌++◌, Option, Some, None, refl, ap, sym, ◌∙◌, subst, codes}
 use Rattle.std.proofs.lemmas.Option.{option_and_then_some, some_pair_parts}
 use Rattle.star_model.specs.declared.catalogue.SiteDef.{SiteDef}
 use Rattle.star_model.specs.declared.catalogue.ColumnDef.{ColumnDef}
 use Rattle.std.specs.Option.{option_map, option_and_then}
 use Rattle.std.specs.Prelude.{slice_get}
 use Rattle.std.proofs.lemmas.List.{append-nil}
-use Rattle.stars_core.specs.Built.{IsTableOf, IsBuiltSite, BeginsSite}
+use Rattle.stars_core.specs.Built.{IsTableOf, IsBuiltSite, IsBuiltTable, BeginsSite, HasTable, SelectsFrom}
 use Rattle.star_model.specs.declared.catalogue.ColType.{ColType}
 use Rattle.star_model.specs.declared.catalogue.ColType.TheVariants as type
 use Rattle.star_model.specs.Vectors.{same_numbers}
 use Rattle.spelling.specs.Lexemes.{MaybeEnded, ended, right_bracket, Lexeme, Word, Number, Text, Symbol}
 use Rattle.spelling.specs.Catalogues.{TablePart, Site, Table, catalogue_lexemes, column_lexemes, type_word}
 use Rattle.spelling.specs.Reading.{Reader, ◌>>=◌, ◌>>◌, pure, the_word, the_symbol, a_word, a_number, a_text}
-use Rattle.spelling.specs.Queries.{only_column, query_lexemes}
+use Rattle.spelling.specs.Queries.{only_column, query_lexemes, IsFree}
 use Rattle.spelling.proofs.Laws.{same_are, same_self, the_word_reads, the_symbol_reads, a_word_reads, a_number_reads, a_text_reads}
 use Rattle.stars_core.specs.ThinReading.{only, whole, whole_at, site_at, column_at, table_at, selection_at, type_named, given}
 
@@ -226,3 +226,54 @@ no_site statements none s begins = let e : None ≡ Some s = sym none ∙ site_t
 pub unbuilt_site : (statements : List MaybeEnded) (t : SiteDef) → whole_at site_at 0 statements ≡ Some t → (IsBuiltSite t → ⊥) → (s : SiteDef) → BeginsSite statements s → ⊥
 unbuilt_site statements t some not s begins =
     not (subst (λ (x : SiteDef). IsBuiltSite x) (one_site statements s t begins.is (site_from statements t some)) begins.built)
+
+pub no_table : (statements : List MaybeEnded) (s : SiteDef) → whole_at table_at 1 statements ≡ None → (t : TablePart) → HasTable statements s t → ⊥
+no_table statements s none t has = let e : None ≡ Some t = sym none ∙ table_to statements t has.statement has.second has.is in absurd cc
+
+pub unbuilt_table : (statements : List MaybeEnded) (s : SiteDef) (u : TablePart) → whole_at table_at 1 statements ≡ Some u → (IsBuiltTable s u → ⊥) → (t : TablePart) → HasTable statements s t → ⊥
+unbuilt_table statements s u some not t has =
+    let e : Some t ≡ Some u = sym (table_to statements t has.statement has.second has.is) ∙ some in
+    let same : t ≡ u = cc in
+    not (subst (λ (x : TablePart). IsBuiltTable s x) same has.built)
+
+pub has_table : (statements : List MaybeEnded) (s : SiteDef) (t : TablePart) → BeginsSite statements s → whole_at table_at 1 statements ≡ Some t → IsBuiltTable s t → HasTable statements s t
+has_table statements s t begins some built =
+    let found = table_from statements t some in
+    record { site = begins; statement = found.0; second = found.1; is = found.2; built = built }
+
+pub one_table : (statements : List MaybeEnded) (s s' : SiteDef) (t t' : TablePart) → HasTable statements s t → HasTable statements s' t' → (s ≡ s') × (t ≡ t')
+one_table statements s s' t t' has has' =
+    let e : Some t ≡ Some t' = sym (table_to statements t has.statement has.second has.is) ∙ table_to statements t' has'.statement has'.second has'.is in
+    (one_site statements s s' has.site.is has'.site.is, cc)
+
+-- ---- what a small catalogue and a query over it are read as
+
+pub no_table_at : (statements : List MaybeEnded) (s : SiteDef) → BeginsSite statements s → ((t : TablePart) → HasTable statements s t → ⊥) → (s' : SiteDef) (t : TablePart) → HasTable statements s' t → ⊥
+no_table_at statements s begins none s' t has =
+    none t (subst (λ (x : SiteDef). HasTable statements x t) (one_site statements s' s has.site.is begins.is) has)
+
+at_least_two : (statements : List MaybeEnded) (x : MaybeEnded) → slice_get statements 1 ≡ Some x → 2 ≤ length statements
+at_least_two [] x is = absurd cc
+at_least_two (a ∷ []) x is = absurd cc
+at_least_two (a ∷ b ∷ statements) x is = omega arith
+
+at_least_one : (statements : List MaybeEnded) (x : MaybeEnded) → slice_get statements 0 ≡ Some x → 1 ≤ length statements
+at_least_one [] x is = absurd cc
+at_least_one (a ∷ statements) x is = omega arith
+
+pub two : (statements : List MaybeEnded) (s : SiteDef) (t : TablePart) → HasTable statements s t → length statements ≤ 2 → length statements ≡ 2
+two statements s t has few = omega (arith, few, at_least_two statements has.statement has.second)
+
+pub one : (statements : List MaybeEnded) (t : TablePart) → SelectsFrom statements t → length statements ≤ 1 → length statements ≡ 1
+one statements t selects few = omega (arith, few, at_least_one statements _ selects.is)
+
+pub selects_from : (statements : List MaybeEnded) (t : TablePart) (column : ColumnDef) → t.columns ≡ column ∷ [] → IsFree t.name
+    → whole_at (selection_at t.name column.name) 0 statements ≡ Some tt → SelectsFrom statements t
+selects_from statements t column columns free is =
+    record { column = column; columns = columns; free = free; is = selection_from statements t.name column.name is }
+
+pub selects_to : (statements : List MaybeEnded) (t : TablePart) (column : ColumnDef) → t.columns ≡ column ∷ [] → SelectsFrom statements t → whole_at (selection_at t.name column.name) 0 statements ≡ Some tt
+selects_to statements t column columns selects =
+    let e : selects.column ∷ [] ≡ column ∷ [] = sym selects.columns ∙ columns in
+    let same : selects.column ≡ column = cc in
+    selection_to statements t.name column.name (subst (λ (x : ColumnDef). slice_get statements 0 ≡ Some (ended (query_lexemes (only_column t.name x.name)))) same selects.is)

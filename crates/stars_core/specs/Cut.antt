@@ -1,10 +1,15 @@
 -- What the statements of a source say.
-use Rattle.std.specs.Prelude.{◌≡◌, ◌≤◌, ℕ, List, length, map, Option, Some, None, MatchOption}
+use Rattle.std.specs.Prelude.{◌≡◌, ◌↔◌, ◌≤◌, ℕ, Bool, IsTrue, List, [], ◌∷◌, length, map, Option, Some, None, MatchOption}
 use Rattle.sb_text.specs.Refusal.{fault_of}
 use Rattle.sb_text.specs.declared.statement.Statement.{Statement}
 use Rattle.spelling.specs.Lexemes.{MaybeEnded, Every, lexemes_of, statements_in}
 use Rattle.spelling.specs.Cursors.{AreTokensOf}
-use Rattle.stars_core.specs.Built.{Given, IsBuilt, IsUnbuiltAt}
+use Rattle.star_model.specs.declared.catalogue.Catalogue.{Catalogue}
+use Rattle.star_model.specs.declared.catalogue.SiteDef.{SiteDef}
+use Rattle.star_model.specs.declared.catalogue.ColumnDef.{ColumnDef}
+use Rattle.spelling.specs.Catalogues.{TablePart}
+use Rattle.heap_plan.specs.Small.{small_catalogue}
+use Rattle.stars_core.specs.Built.{Given, IsBuilt, IsUnbuiltAt, SelectsFrom}
 
 abbrev pub said_of : List ℕ → Statement → MaybeEnded
 said_of source statement = (lexemes_of source statement.tokens.now, statement.ended)
@@ -29,3 +34,8 @@ AnswersBuilt earlier this answer = MatchOption answer (IsBuilt earlier this) (Is
 abbrev pub Finds : {A W : Type 0} → (W → A) → (A → Type 0) → Option W → Type 0
 Finds {A} view Is None = (a : A) → Is a → ⊥
 Finds view Is (Some found) = Is (view found)
+
+-- whether the first statement selects the column of the table of a small catalogue
+abbrev pub SelectsWhere : List MaybeEnded → Catalogue → Bool → Type 0
+SelectsWhere statements catalogue answer =
+    (s : SiteDef) (t : TablePart) → catalogue ≡ small_catalogue s t → IsTrue answer ↔ SelectsFrom statements t

@@ -3,7 +3,9 @@ pub mod Lines
 pub mod TinyText
 pub mod Built
 pub mod ThinReading
+pub mod Small
 pub mod Cut
+pub mod ThinFinding
 pub mod Faults
 pub mod Judging
 pub mod Plan

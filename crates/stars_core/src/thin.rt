@@ -2,10 +2,11 @@
 ghost use Rattle.std.specs.Prelude.{◌≡◌, ◌≤◌, ◌↔◌, option_map, length, IsTrue, IfOk, Some};
 ghost use Rattle.star_model.specs.Numbers.{top};
 ghost use Rattle.star_model.specs.declared.catalogue.SiteDef.{SiteDef};
-ghost use Rattle.spelling.specs.Lexemes.{Every, ended};
+ghost use Rattle.spelling.specs.Lexemes.{Every, undoubled};
 ghost use Rattle.spelling.specs.Catalogues.{TablePart, Site, Table, catalogue_lexemes};
 ghost use Rattle.stars_core.specs.Built.{IsName, IsFileName, IsBuiltSite, IsBuiltColumn, IsBuiltTable, IsTableOf, BeginsSite, HasTable};
 ghost use Rattle.stars_core.specs.Cut.{Finds, IsOf, said_of, said_by};
+ghost use Rattle.stars_core.specs.ThinFinding.{FindsTable};
 ghost use Rattle.spelling.specs.Reading.{Reads};
 ghost use Rattle.stars_core.specs.ThinReading.{whole, whole_at, site_at, column_at, table_at, selection_at, type_named, site_of, column_of, table_of};
 
@@ -185,7 +186,7 @@ fn second_table<'a>(source: &'a [u8], statements: &[Statement<'a>]) -> Option<Ta
 }
 
 // Whether the first statement selects this column of this table.
-fn selects(
+pub fn selects(
     source: &[u8],
     statements: &[Statement<'_>],
     table: &[u8],
@@ -216,4 +217,60 @@ pub fn built_site<'a>(source: &'a [u8], statements: &[Statement<'a>]) -> Option<
 {
     let site = first_site(source, statements)?;
     if is_built_site(&site) { Some(site) } else { None }
+}
+
+/// A table that has a reader, and the name of its file.
+#[derive(Drop)]
+pub struct BuiltTable<'a> {
+    pub words: TableWords<'a>,
+    pub file: Vec<u8>,
+}
+
+const MOST_FILE: usize = 255;
+
+fn is_file_name(name: &[u8]) -> bool
+    ensures { IsTrue result ↔ IsFileName name.now }
+{
+    !name.is_empty() && name.len() <= MOST_FILE && str::from_utf8(name).is_ok()
+}
+
+fn is_built_column(column: &ColumnWords<'_>) -> bool
+    ensures { IsTrue result ↔ IsBuiltColumn (column_of column.now) }
+{
+    column.name.len() <= MOST_NAME && column.width <= TOP && column.distinct <= TOP
+}
+
+// Whether a table at this site has a reader.
+fn is_built_table(site: &SiteWords<'_>, table: &TableWords<'_>, file: &[u8]) -> bool
+    requires { file.now ≡ undoubled table.now.file.now }
+    ensures { IsTrue result ↔ IsBuiltTable (site_of site.now) (table_of table.now) }
+{
+    table.site == site.name
+        && table.name.len() <= MOST_NAME
+        && table.rows <= TOP
+        && table.pages <= TOP
+        && is_file_name(file)
+        && is_built_column(&table.column)
+}
+
+/// What the second statement says of a table at this site that has a reader.
+pub fn built_table<'a>(
+    alloc: Global,
+    source: &'a [u8],
+    statements: &[Statement<'a>],
+    site: &SiteWords<'_>,
+) -> Result<Option<BuiltTable<'a>>, AllocError>
+    requires statements { Every (IsOf source.now) statements.now }
+    requires site { BeginsSite (said_by source.now statements.now) (site_of site.now) }
+    ensures { IfOk result (λ found. FindsTable (said_by source.now statements.now) (site_of site.now) found) }
+{
+    let Some(words) = second_table(source, statements) else {
+        return Ok(None);
+    };
+    let file = text_bytes(alloc, words.file)?;
+    if is_built_table(site, &words, file.as_slice()) {
+        Ok(Some(BuiltTable { words, file }))
+    } else {
+        Ok(None)
+    }
 }
