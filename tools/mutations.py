@@ -371,6 +371,7 @@ ALONE = {
         ("Predicates", "the right side's column isn't touched", "columns_of_operand (Column c) = c ∷ []", "columns_of_operand (Column c) = []"),
     ],
     "values::crossing": [
+        ("Predicates", "lying inside is touching", "lies_in s p = list_all (λ c. has s c.quant.0) (columns_of p)", "lies_in s p = list_any (λ c. has s c.quant.0) (columns_of p)"),
         ("Predicates", "crossing has those that lie inside", "touches s p && not (lies_in s p)", "touches s p"),
         ("Predicates", "crossing has those that don't touch", "touches s p && not (lies_in s p)", "not (lies_in s p)"),
     ],

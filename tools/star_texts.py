@@ -44,6 +44,11 @@ def codes(name):
     return f'codes "{name}"'
 
 
+def unquoted(text):
+    """The bytes of a text, with its quotes undoubled."""
+    return text[1:-1].replace("''", "'")
+
+
 class Reader:
     """The tokens of a text, from the front."""
 
@@ -270,7 +275,7 @@ def catalogue(text):
             reader.expect(")")
             tables.append(
                 f"record {{ name = {codes(name)}; site = record {{ 0 = {site} }}; rows = {rows}; pages = {pages};"
-                f" file = {codes(file[1:-1])}; columns = {list_of(columns)} }}"
+                f" file = {codes(unquoted(file))}; columns = {list_of(columns)} }}"
             )
         else:
             names.indexes.append(name)
@@ -336,7 +341,7 @@ class QueryReader(Reader):
     def operand(self):
         word = self.peek()
         if word[0] == "'":
-            return f"operand.Constant (constant.Text ({codes(self.next()[1:-1])}))"
+            return f"operand.Constant (constant.Text ({codes(unquoted(self.next()))}))"
         if word == "-":
             self.next()
             return f"operand.Constant (constant.Int (neg_ℤ (pos {self.next()})))"

@@ -110,7 +110,7 @@ abbrev pub other_join : Deriv
 other_join = (d.Glue [] (d.Goal (record { tables = 3; pushed = 0 }) (Some (1, 2)) (d.Reference (codes "JoinRoot") 1 [] (d.Binary flavour.JoinHash (d.Glue [] (d.Goal (record { tables = 1; pushed = 0 }) None (d.Reference (codes "AccessRoot") 1 [] (derivation.Leaf flavour.AccessHeap)))) (d.Glue [] (d.Goal (record { tables = 2; pushed = 0 }) None (d.Reference (codes "AccessRoot") 1 [] (derivation.Leaf flavour.AccessHeap))))))))
 
 abbrev pub other_operator : Deriv
-other_operator = (d.Glue [] (d.Goal (record { tables = 1; pushed = 0 }) None (d.Reference (codes "AccessRoot") 2 [] (d.Unary flavour.Sort (derivation.Leaf flavour.AccessHeap)))))
+other_operator = (d.Glue [] (d.Goal (record { tables = 1; pushed = 0 }) None (d.Reference (codes "AccessRoot") 2 [] (d.Unary flavour.Filter (derivation.Leaf flavour.AccessHeap)))))
 
 abbrev pub other_star : Deriv
 other_star = (d.Glue [] (d.Goal (record { tables = 1; pushed = 0 }) None (d.Reference (codes "JoinRoot") 1 [] (derivation.Leaf flavour.AccessHeap))))

@@ -53,6 +53,15 @@ pushed_of_french_orders_under_standard = record { tables = 4; cols = (0 ∷ 0 �
 abbrev pub lines_of_french_orders_under_standard : Props
 lines_of_french_orders_under_standard = record { tables = 8; cols = (0 ∷ 0 ∷ 0 ∷ 7 ∷ 0 ∷ 0 ∷ 0 ∷ 0 ∷ 0 ∷ 0 ∷ 0 ∷ 0 ∷ []); preds = 0; order = []; site = record { 0 = 1 }; temp = false; path = []; card = 6000000; cost = 13100000; rescan = 13100000 }
 
+abbrev pub of_order_of_french_orders_under_standard : Props
+of_order_of_french_orders_under_standard = record { tables = 8; cols = (0 ∷ 0 ∷ 0 ∷ 3 ∷ 0 ∷ 0 ∷ 0 ∷ 0 ∷ 0 ∷ 0 ∷ 0 ∷ 0 ∷ []); preds = 16; order = (record { quant = record { 0 = 3 }; column = 0 } ∷ record { quant = record { 0 = 3 }; column = 1 } ∷ []); site = record { 0 = 1 }; temp = false; path = []; card = 4; cost = 19; rescan = 19 }
+
+abbrev pub all_orders_of_french_orders_under_standard : Props
+all_orders_of_french_orders_under_standard = record { tables = 4; cols = (0 ∷ 0 ∷ 7 ∷ 0 ∷ 0 ∷ 0 ∷ 0 ∷ 0 ∷ 0 ∷ 0 ∷ 0 ∷ 0 ∷ []); preds = 0; order = []; site = record { 0 = 1 }; temp = false; path = []; card = 1500000; cost = 3260000; rescan = 3260000 }
+
+abbrev pub all_shipped_of_french_orders_under_standard : Props
+all_shipped_of_french_orders_under_standard = record { tables = 4; cols = (0 ∷ 0 ∷ 7 ∷ 0 ∷ 0 ∷ 0 ∷ 0 ∷ 0 ∷ 0 ∷ 0 ∷ 0 ∷ 0 ∷ []); preds = 0; order = []; site = record { 0 = 0 }; temp = false; path = []; card = 1500000; cost = 219260000; rescan = 219260000 }
+
 abbrev pub parts_of_french_orders_under_standard : Props
 parts_of_french_orders_under_standard = record { tables = 16; cols = (0 ∷ 0 ∷ 0 ∷ 0 ∷ 1 ∷ 0 ∷ 0 ∷ 0 ∷ 0 ∷ 0 ∷ 0 ∷ 0 ∷ []); preds = 0; order = (record { quant = record { 0 = 4 }; column = 0 } ∷ []); site = record { 0 = 0 }; temp = false; path = []; card = 200000; cost = 204410; rescan = 204410 }
 
@@ -77,6 +86,24 @@ stored_of_generated_under_variables = record { tables = 2; cols = (0 ∷ 3 ∷ 0
 abbrev pub sorted_of_generated_under_variables : Props
 sorted_of_generated_under_variables = record { tables = 1; cols = (1 ∷ 0 ∷ 0 ∷ 0 ∷ 0 ∷ 0 ∷ 0 ∷ 0 ∷ 0 ∷ 0 ∷ 0 ∷ 0 ∷ []); preds = 0; order = (record { quant = record { 0 = 0 }; column = 0 } ∷ []); site = record { 0 = 0 }; temp = false; path = []; card = 13; cost = 13000000000000001; rescan = 1000013000008008 }
 
+abbrev pub customers_of_french_orders_under_variables : Props
+customers_of_french_orders_under_variables = record { tables = 1; cols = (7 ∷ 0 ∷ 0 ∷ 0 ∷ 0 ∷ 0 ∷ 0 ∷ 0 ∷ 0 ∷ 0 ∷ 0 ∷ 0 ∷ []); preds = 0; order = []; site = record { 0 = 0 }; temp = false; path = []; card = 150000; cost = 1000000000000000000; rescan = 1000000000000041 }
+
+abbrev pub orders_of_french_orders_under_variables : Props
+orders_of_french_orders_under_variables = record { tables = 4; cols = (0 ∷ 0 ∷ 7 ∷ 0 ∷ 0 ∷ 0 ∷ 0 ∷ 0 ∷ 0 ∷ 0 ∷ 0 ∷ 0 ∷ []); preds = 0; order = []; site = record { 0 = 1 }; temp = false; path = []; card = 1500000; cost = 1000000000000000000; rescan = 1000000000000024 }
+
+abbrev pub shipped_of_french_orders_under_variables : Props
+shipped_of_french_orders_under_variables = record { tables = 4; cols = (0 ∷ 0 ∷ 7 ∷ 0 ∷ 0 ∷ 0 ∷ 0 ∷ 0 ∷ 0 ∷ 0 ∷ 0 ∷ 0 ∷ []); preds = 0; order = []; site = record { 0 = 0 }; temp = false; path = []; card = 1500000; cost = 1000000000000000000; rescan = 2500000000024024 }
+
+abbrev pub sorted_of_french_orders_under_variables : Props
+sorted_of_french_orders_under_variables = record { tables = 4; cols = (0 ∷ 0 ∷ 7 ∷ 0 ∷ 0 ∷ 0 ∷ 0 ∷ 0 ∷ 0 ∷ 0 ∷ 0 ∷ 0 ∷ []); preds = 0; order = (record { quant = record { 0 = 2 }; column = 1 } ∷ []); site = record { 0 = 0 }; temp = false; path = []; card = 1500000; cost = 1000000000000000000; rescan = 2500000000024024 }
+
+abbrev pub keyed_of_french_orders_under_variables : Props
+keyed_of_french_orders_under_variables = record { tables = 1; cols = (3 ∷ 0 ∷ 0 ∷ 0 ∷ 0 ∷ 0 ∷ 0 ∷ 0 ∷ 0 ∷ 0 ∷ 0 ∷ 0 ∷ []); preds = 0; order = (record { quant = record { 0 = 0 }; column = 1 } ∷ record { quant = record { 0 = 0 }; column = 0 } ∷ []); site = record { 0 = 0 }; temp = false; path = []; card = 150000; cost = 1000000000000000000; rescan = 1000000000000016 }
+
+abbrev pub by_key_of_french_orders_under_variables : Props
+by_key_of_french_orders_under_variables = record { tables = 1; cols = (3 ∷ 0 ∷ 0 ∷ 0 ∷ 0 ∷ 0 ∷ 0 ∷ 0 ∷ 0 ∷ 0 ∷ 0 ∷ 0 ∷ []); preds = 0; order = (record { quant = record { 0 = 0 }; column = 0 } ∷ []); site = record { 0 = 0 }; temp = false; path = []; card = 150000; cost = 1000000000000000000; rescan = 1150000000016016 }
+
 abbrev pub t_of_shipped_under_variables : Props
 t_of_shipped_under_variables = record { tables = 1; cols = (1 ∷ 0 ∷ 0 ∷ 0 ∷ 0 ∷ 0 ∷ 0 ∷ 0 ∷ 0 ∷ 0 ∷ 0 ∷ 0 ∷ []); preds = 0; order = []; site = record { 0 = 1 }; temp = false; path = []; card = 100; cost = 100001100000000005; rescan = 1000000000000008 }
 
@@ -85,6 +112,12 @@ near_of_shipped_under_variables = record { tables = 1; cols = (1 ∷ 0 ∷ 0 ∷
 
 abbrev pub n_of_two_tables_under_variables : Props
 n_of_two_tables_under_variables = record { tables = 1; cols = (3 ∷ 0 ∷ 0 ∷ 0 ∷ 0 ∷ 0 ∷ 0 ∷ 0 ∷ 0 ∷ 0 ∷ 0 ∷ 0 ∷ []); preds = 0; order = []; site = record { 0 = 0 }; temp = false; path = []; card = 25; cost = 25001025000000001; rescan = 1000000000000033 }
+
+abbrev pub e_of_compared_under_standard : Props
+e_of_compared_under_standard = record { tables = 1; cols = (7 ∷ 0 ∷ 0 ∷ 0 ∷ 0 ∷ 0 ∷ 0 ∷ 0 ∷ 0 ∷ 0 ∷ 0 ∷ 0 ∷ []); preds = 0; order = []; site = record { 0 = 0 }; temp = false; path = []; card = 1000; cost = 2000; rescan = 2000 }
+
+abbrev pub f_of_compared_under_standard : Props
+f_of_compared_under_standard = record { tables = 2; cols = (0 ∷ 3 ∷ 0 ∷ 0 ∷ 0 ∷ 0 ∷ 0 ∷ 0 ∷ 0 ∷ 0 ∷ 0 ∷ 0 ∷ []); preds = 0; order = []; site = record { 0 = 0 }; temp = false; path = []; card = 1000; cost = 2000; rescan = 2000 }
 
 abbrev pub access_heap_of_cities_under_standard : List (Op × List Props × Option Props)
 access_heap_of_cities_under_standard =
@@ -112,6 +145,7 @@ sort_of_cities_under_standard =
     ∷ ((op.Sort []), (emp_of_cities_under_standard ∷ []), None)
     ∷ ((op.Sort (record { quant = record { 0 = 1 }; column = 2 } ∷ [])), (emp_of_cities_under_standard ∷ []), None)
     ∷ ((op.Sort (record { quant = record { 0 = 1 }; column = 0 } ∷ record { quant = record { 0 = 0 }; column = 0 } ∷ [])), (emp_of_cities_under_standard ∷ []), None)
+    ∷ ((op.Sort (record { quant = record { 0 = 1 }; column = 0 } ∷ [])), (stored_of_cities_under_standard ∷ []), Some (record { tables = 2; cols = (0 ∷ 3 ∷ 0 ∷ 0 ∷ 0 ∷ 0 ∷ 0 ∷ 0 ∷ 0 ∷ 0 ∷ 0 ∷ 0 ∷ []); preds = 0; order = (record { quant = record { 0 = 1 }; column = 0 } ∷ []); site = record { 0 = 0 }; temp = false; path = []; card = 1000; cost = 7210; rescan = 5000 }))
     ∷ []
 
 abbrev pub store_of_cities_under_standard : List (Op × List Props × Option Props)
@@ -122,6 +156,7 @@ store_of_cities_under_standard =
     ∷ ((op.Store []), (by_index_of_cities_under_standard ∷ []), Some (record { tables = 2; cols = (0 ∷ 3 ∷ 0 ∷ 0 ∷ 0 ∷ 0 ∷ 0 ∷ 0 ∷ 0 ∷ 0 ∷ 0 ∷ 0 ∷ []); preds = 0; order = (record { quant = record { 0 = 1 }; column = 1 } ∷ record { quant = record { 0 = 1 }; column = 0 } ∷ []); site = record { 0 = 0 }; temp = true; path = []; card = 1000; cost = 3210; rescan = 1000 }))
     ∷ ((op.Store []), (pushed_of_cities_under_standard ∷ []), None)
     ∷ ((op.Store (record { quant = record { 0 = 1 }; column = 2 } ∷ [])), (emp_of_cities_under_standard ∷ []), None)
+    ∷ ((op.Store (record { quant = record { 0 = 1 }; column = 0 } ∷ [])), (stored_of_cities_under_standard ∷ []), Some (record { tables = 2; cols = (0 ∷ 3 ∷ 0 ∷ 0 ∷ 0 ∷ 0 ∷ 0 ∷ 0 ∷ 0 ∷ 0 ∷ 0 ∷ 0 ∷ []); preds = 0; order = (record { quant = record { 0 = 1 }; column = 1 } ∷ record { quant = record { 0 = 1 }; column = 0 } ∷ []); site = record { 0 = 0 }; temp = true; path = (record { quant = record { 0 = 1 }; column = 0 } ∷ []); card = 1000; cost = 5210; rescan = 1000 }))
     ∷ []
 
 abbrev pub get_of_cities_under_standard : List (Op × List Props × Option Props)
@@ -131,6 +166,7 @@ get_of_cities_under_standard =
     ∷ ((op.Get 2 0), (pushed_of_cities_under_standard ∷ []), Some (record { tables = 2; cols = (0 ∷ 3 ∷ 0 ∷ 0 ∷ 0 ∷ 0 ∷ 0 ∷ 0 ∷ 0 ∷ 0 ∷ 0 ∷ 0 ∷ []); preds = 1; order = (record { quant = record { 0 = 1 }; column = 1 } ∷ record { quant = record { 0 = 1 }; column = 0 } ∷ []); site = record { 0 = 0 }; temp = false; path = []; card = 100; cost = 1130; rescan = 1130 }))
     ∷ ((op.Get 1 0), (by_index_of_cities_under_standard ∷ []), None)
     ∷ ((op.Get 2 0), (dept_of_cities_under_standard ∷ []), None)
+    ∷ ((op.Get 2 0), (stored_of_cities_under_standard ∷ []), Some (record { tables = 2; cols = (0 ∷ 3 ∷ 0 ∷ 0 ∷ 0 ∷ 0 ∷ 0 ∷ 0 ∷ 0 ∷ 0 ∷ 0 ∷ 0 ∷ []); preds = 0; order = (record { quant = record { 0 = 1 }; column = 1 } ∷ record { quant = record { 0 = 1 }; column = 0 } ∷ []); site = record { 0 = 0 }; temp = false; path = []; card = 1000; cost = 13210; rescan = 11000 }))
     ∷ []
 
 abbrev pub filter_of_cities_under_standard : List (Op × List Props × Option Props)
@@ -138,6 +174,7 @@ filter_of_cities_under_standard =
     ((op.Filter 1), (emp_of_cities_under_standard ∷ []), Some (record { tables = 2; cols = (0 ∷ 3 ∷ 0 ∷ 0 ∷ 0 ∷ 0 ∷ 0 ∷ 0 ∷ 0 ∷ 0 ∷ 0 ∷ 0 ∷ []); preds = 1; order = []; site = record { 0 = 0 }; temp = false; path = []; card = 100; cost = 3000; rescan = 3000 }))
     ∷ ((op.Filter 0), (emp_of_cities_under_standard ∷ []), Some (record { tables = 2; cols = (0 ∷ 3 ∷ 0 ∷ 0 ∷ 0 ∷ 0 ∷ 0 ∷ 0 ∷ 0 ∷ 0 ∷ 0 ∷ 0 ∷ []); preds = 0; order = []; site = record { 0 = 0 }; temp = false; path = []; card = 1000; cost = 2000; rescan = 2000 }))
     ∷ ((op.Filter 1), (pushed_of_cities_under_standard ∷ []), Some (record { tables = 2; cols = (0 ∷ 3 ∷ 0 ∷ 0 ∷ 0 ∷ 0 ∷ 0 ∷ 0 ∷ 0 ∷ 0 ∷ 0 ∷ 0 ∷ []); preds = 1; order = (record { quant = record { 0 = 1 }; column = 1 } ∷ record { quant = record { 0 = 1 }; column = 0 } ∷ []); site = record { 0 = 0 }; temp = false; path = []; card = 100; cost = 230; rescan = 230 }))
+    ∷ ((op.Filter 1), (stored_of_cities_under_standard ∷ []), Some (record { tables = 2; cols = (0 ∷ 3 ∷ 0 ∷ 0 ∷ 0 ∷ 0 ∷ 0 ∷ 0 ∷ 0 ∷ 0 ∷ 0 ∷ 0 ∷ []); preds = 1; order = (record { quant = record { 0 = 1 }; column = 1 } ∷ record { quant = record { 0 = 1 }; column = 0 } ∷ []); site = record { 0 = 0 }; temp = false; path = []; card = 100; cost = 4210; rescan = 2000 }))
     ∷ []
 
 abbrev pub ship_of_cities_under_standard : List (Op × List Props × Option Props)
@@ -145,19 +182,10 @@ ship_of_cities_under_standard =
     ((op.Ship (record { 0 = 0 })), (emp_of_cities_under_standard ∷ []), None)
     ∷ []
 
-abbrev pub probe_of_cities_under_standard : List (Op × List Props × Option Props)
-probe_of_cities_under_standard =
-    ((op.Probe (record { quant = record { 0 = 1 }; column = 1 } ∷ []) 1), (stored_of_cities_under_standard ∷ []), Some (record { tables = 2; cols = (0 ∷ 3 ∷ 0 ∷ 0 ∷ 0 ∷ 0 ∷ 0 ∷ 0 ∷ 0 ∷ 0 ∷ 0 ∷ 0 ∷ []); preds = 1; order = (record { quant = record { 0 = 1 }; column = 1 } ∷ []); site = record { 0 = 0 }; temp = false; path = []; card = 100; cost = 3311; rescan = 101 }))
-    ∷ ((op.Probe (record { quant = record { 0 = 1 }; column = 1 } ∷ record { quant = record { 0 = 1 }; column = 0 } ∷ []) 0), (stored_of_cities_under_standard ∷ []), Some (record { tables = 2; cols = (0 ∷ 3 ∷ 0 ∷ 0 ∷ 0 ∷ 0 ∷ 0 ∷ 0 ∷ 0 ∷ 0 ∷ 0 ∷ 0 ∷ []); preds = 0; order = (record { quant = record { 0 = 1 }; column = 1 } ∷ record { quant = record { 0 = 1 }; column = 0 } ∷ []); site = record { 0 = 0 }; temp = false; path = []; card = 1000; cost = 4211; rescan = 1001 }))
-    ∷ ((op.Probe [] 1), (stored_of_cities_under_standard ∷ []), None)
-    ∷ ((op.Probe (record { quant = record { 0 = 1 }; column = 0 } ∷ []) 1), (stored_of_cities_under_standard ∷ []), None)
-    ∷ ((op.Probe (record { quant = record { 0 = 1 }; column = 1 } ∷ record { quant = record { 0 = 1 }; column = 0 } ∷ record { quant = record { 0 = 1 }; column = 1 } ∷ []) 0), (stored_of_cities_under_standard ∷ []), None)
-    ∷ ((op.Probe (record { quant = record { 0 = 1 }; column = 1 } ∷ []) 0), (emp_of_cities_under_standard ∷ []), None)
-    ∷ []
-
 abbrev pub join_nl_of_cities_under_standard : List (Op × List Props × Option Props)
 join_nl_of_cities_under_standard =
-    ((op.JoinNl 0), (dept_of_cities_under_standard ∷ pushed_of_cities_under_standard ∷ []), Some (record { tables = 3; cols = (3 ∷ 3 ∷ 0 ∷ 0 ∷ 0 ∷ 0 ∷ 0 ∷ 0 ∷ 0 ∷ 0 ∷ 0 ∷ 0 ∷ []); preds = 1; order = []; site = record { 0 = 0 }; temp = false; path = []; card = 1000; cost = 1320; rescan = 1320 }))
+    ((op.JoinNl 1), (dept_of_cities_under_standard ∷ stored_of_cities_under_standard ∷ []), Some (record { tables = 3; cols = (3 ∷ 3 ∷ 0 ∷ 0 ∷ 0 ∷ 0 ∷ 0 ∷ 0 ∷ 0 ∷ 0 ∷ 0 ∷ 0 ∷ []); preds = 1; order = []; site = record { 0 = 0 }; temp = false; path = []; card = 1000; cost = 12230; rescan = 10020 }))
+    ∷ ((op.JoinNl 0), (dept_of_cities_under_standard ∷ pushed_of_cities_under_standard ∷ []), Some (record { tables = 3; cols = (3 ∷ 3 ∷ 0 ∷ 0 ∷ 0 ∷ 0 ∷ 0 ∷ 0 ∷ 0 ∷ 0 ∷ 0 ∷ 0 ∷ []); preds = 1; order = []; site = record { 0 = 0 }; temp = false; path = []; card = 1000; cost = 1320; rescan = 1320 }))
     ∷ ((op.JoinNl 1), (dept_of_cities_under_standard ∷ emp_of_cities_under_standard ∷ []), Some (record { tables = 3; cols = (3 ∷ 3 ∷ 0 ∷ 0 ∷ 0 ∷ 0 ∷ 0 ∷ 0 ∷ 0 ∷ 0 ∷ 0 ∷ 0 ∷ []); preds = 1; order = []; site = record { 0 = 0 }; temp = false; path = []; card = 1000; cost = 20020; rescan = 20020 }))
     ∷ ((op.JoinNl 0), (dept_of_cities_under_standard ∷ emp_of_cities_under_standard ∷ []), Some (record { tables = 3; cols = (3 ∷ 3 ∷ 0 ∷ 0 ∷ 0 ∷ 0 ∷ 0 ∷ 0 ∷ 0 ∷ 0 ∷ 0 ∷ 0 ∷ []); preds = 0; order = []; site = record { 0 = 0 }; temp = false; path = []; card = 10000; cost = 20020; rescan = 20020 }))
     ∷ ((op.JoinNl 1), (emp_of_cities_under_standard ∷ dept_of_cities_under_standard ∷ []), Some (record { tables = 3; cols = (3 ∷ 3 ∷ 0 ∷ 0 ∷ 0 ∷ 0 ∷ 0 ∷ 0 ∷ 0 ∷ 0 ∷ 0 ∷ 0 ∷ []); preds = 1; order = []; site = record { 0 = 0 }; temp = false; path = []; card = 1000; cost = 22000; rescan = 22000 }))
@@ -169,12 +197,23 @@ join_nl_of_cities_under_standard =
 
 abbrev pub join_hash_of_cities_under_standard : List (Op × List Props × Option Props)
 join_hash_of_cities_under_standard =
-    ((op.JoinHash 1 0), (dept_of_cities_under_standard ∷ emp_of_cities_under_standard ∷ []), Some (record { tables = 3; cols = (3 ∷ 3 ∷ 0 ∷ 0 ∷ 0 ∷ 0 ∷ 0 ∷ 0 ∷ 0 ∷ 0 ∷ 0 ∷ 0 ∷ []); preds = 1; order = []; site = record { 0 = 0 }; temp = false; path = []; card = 1000; cost = 4030; rescan = 4030 }))
+    ((op.JoinHash 1 0), (stored_of_cities_under_standard ∷ dept_of_cities_under_standard ∷ []), Some (record { tables = 3; cols = (3 ∷ 3 ∷ 0 ∷ 0 ∷ 0 ∷ 0 ∷ 0 ∷ 0 ∷ 0 ∷ 0 ∷ 0 ∷ 0 ∷ []); preds = 1; order = []; site = record { 0 = 0 }; temp = false; path = []; card = 1000; cost = 4250; rescan = 2040 }))
+    ∷ ((op.JoinHash 1 0), (dept_of_cities_under_standard ∷ emp_of_cities_under_standard ∷ []), Some (record { tables = 3; cols = (3 ∷ 3 ∷ 0 ∷ 0 ∷ 0 ∷ 0 ∷ 0 ∷ 0 ∷ 0 ∷ 0 ∷ 0 ∷ 0 ∷ []); preds = 1; order = []; site = record { 0 = 0 }; temp = false; path = []; card = 1000; cost = 4030; rescan = 4030 }))
     ∷ ((op.JoinHash 1 1), (sorted_of_cities_under_standard ∷ by_index_of_cities_under_standard ∷ []), Some (record { tables = 3; cols = (3 ∷ 3 ∷ 0 ∷ 0 ∷ 0 ∷ 0 ∷ 0 ∷ 0 ∷ 0 ∷ 0 ∷ 0 ∷ 0 ∷ []); preds = 1; order = []; site = record { 0 = 0 }; temp = false; path = []; card = 1000; cost = 3280; rescan = 3280 }))
     ∷ ((op.JoinHash 0 1), (dept_of_cities_under_standard ∷ emp_of_cities_under_standard ∷ []), None)
     ∷ ((op.JoinHash 1 0), (dept_of_cities_under_standard ∷ pushed_of_cities_under_standard ∷ []), None)
     ∷ ((op.JoinHash 1 0), (pushed_of_cities_under_standard ∷ dept_of_cities_under_standard ∷ []), None)
     ∷ ((op.JoinHash 1 0), (dept_of_cities_under_standard ∷ dept_of_cities_under_standard ∷ []), None)
+    ∷ []
+
+abbrev pub probe_of_cities_under_standard : List (Op × List Props × Option Props)
+probe_of_cities_under_standard =
+    ((op.Probe (record { quant = record { 0 = 1 }; column = 1 } ∷ []) 1), (stored_of_cities_under_standard ∷ []), Some (record { tables = 2; cols = (0 ∷ 3 ∷ 0 ∷ 0 ∷ 0 ∷ 0 ∷ 0 ∷ 0 ∷ 0 ∷ 0 ∷ 0 ∷ 0 ∷ []); preds = 1; order = (record { quant = record { 0 = 1 }; column = 1 } ∷ []); site = record { 0 = 0 }; temp = false; path = []; card = 100; cost = 3311; rescan = 101 }))
+    ∷ ((op.Probe (record { quant = record { 0 = 1 }; column = 1 } ∷ record { quant = record { 0 = 1 }; column = 0 } ∷ []) 0), (stored_of_cities_under_standard ∷ []), Some (record { tables = 2; cols = (0 ∷ 3 ∷ 0 ∷ 0 ∷ 0 ∷ 0 ∷ 0 ∷ 0 ∷ 0 ∷ 0 ∷ 0 ∷ 0 ∷ []); preds = 0; order = (record { quant = record { 0 = 1 }; column = 1 } ∷ record { quant = record { 0 = 1 }; column = 0 } ∷ []); site = record { 0 = 0 }; temp = false; path = []; card = 1000; cost = 4211; rescan = 1001 }))
+    ∷ ((op.Probe [] 1), (stored_of_cities_under_standard ∷ []), None)
+    ∷ ((op.Probe (record { quant = record { 0 = 1 }; column = 0 } ∷ []) 1), (stored_of_cities_under_standard ∷ []), None)
+    ∷ ((op.Probe (record { quant = record { 0 = 1 }; column = 1 } ∷ record { quant = record { 0 = 1 }; column = 0 } ∷ record { quant = record { 0 = 1 }; column = 1 } ∷ []) 0), (stored_of_cities_under_standard ∷ []), None)
+    ∷ ((op.Probe (record { quant = record { 0 = 1 }; column = 1 } ∷ []) 0), (emp_of_cities_under_standard ∷ []), None)
     ∷ []
 
 abbrev pub join_merge_of_cities_under_standard : List (Op × List Props × Option Props)
@@ -295,6 +334,7 @@ access_heap_of_french_orders_under_standard =
     ∷ ((op.AccessHeap 2 2), [], Some (nations_of_french_orders_under_standard))
     ∷ ((op.AccessHeap 4 8), [], Some (orders_of_french_orders_under_standard))
     ∷ ((op.AccessHeap 8 0), [], Some (lines_of_french_orders_under_standard))
+    ∷ ((op.AccessHeap 4 0), [], Some (all_orders_of_french_orders_under_standard))
     ∷ ((op.AccessHeap 1 1), [], Some (record { tables = 1; cols = (7 ∷ 0 ∷ 0 ∷ 0 ∷ 0 ∷ 0 ∷ 0 ∷ 0 ∷ 0 ∷ 0 ∷ 0 ∷ 0 ∷ []); preds = 1; order = []; site = record { 0 = 0 }; temp = false; path = []; card = 6000; cost = 186000; rescan = 186000 }))
     ∷ ((op.AccessHeap 1 2), [], None)
     ∷ ((op.AccessHeap 4 12), [], Some (record { tables = 4; cols = (0 ∷ 0 ∷ 7 ∷ 0 ∷ 0 ∷ 0 ∷ 0 ∷ 0 ∷ 0 ∷ 0 ∷ 0 ∷ 0 ∷ []); preds = 12; order = []; site = record { 0 = 1 }; temp = false; path = []; card = 4; cost = 3260000; rescan = 3260000 }))
@@ -304,6 +344,7 @@ abbrev pub ship_of_french_orders_under_standard : List (Op × List Props × Opti
 ship_of_french_orders_under_standard =
     ((op.Ship (record { 0 = 0 })), (orders_of_french_orders_under_standard ∷ []), Some (shipped_of_french_orders_under_standard))
     ∷ ((op.Ship (record { 0 = 0 })), (keyed_of_french_orders_under_standard ∷ []), Some (keyed_shipped_of_french_orders_under_standard))
+    ∷ ((op.Ship (record { 0 = 0 })), (all_orders_of_french_orders_under_standard ∷ []), Some (all_shipped_of_french_orders_under_standard))
     ∷ ((op.Ship (record { 0 = 1 })), (customers_of_french_orders_under_standard ∷ []), Some (record { tables = 1; cols = (7 ∷ 0 ∷ 0 ∷ 0 ∷ 0 ∷ 0 ∷ 0 ∷ 0 ∷ 0 ∷ 0 ∷ 0 ∷ 0 ∷ []); preds = 0; order = []; site = record { 0 = 1 }; temp = false; path = []; card = 150000; cost = 37086000; rescan = 37086000 }))
     ∷ ((op.Ship (record { 0 = 1 })), (shipped_of_french_orders_under_standard ∷ []), Some (record { tables = 4; cols = (0 ∷ 0 ∷ 7 ∷ 0 ∷ 0 ∷ 0 ∷ 0 ∷ 0 ∷ 0 ∷ 0 ∷ 0 ∷ 0 ∷ []); preds = 8; order = []; site = record { 0 = 1 }; temp = false; path = []; card = 500000; cost = 147260000; rescan = 147260000 }))
     ∷ ((op.Ship (record { 0 = 1 })), (parts_of_french_orders_under_standard ∷ []), Some (record { tables = 16; cols = (0 ∷ 0 ∷ 0 ∷ 0 ∷ 1 ∷ 0 ∷ 0 ∷ 0 ∷ 0 ∷ 0 ∷ 0 ∷ 0 ∷ []); preds = 0; order = (record { quant = record { 0 = 4 }; column = 0 } ∷ []); site = record { 0 = 1 }; temp = false; path = []; card = 200000; cost = 9804410; rescan = 9804410 }))
@@ -313,6 +354,7 @@ abbrev pub access_index_of_french_orders_under_standard : List (Op × List Props
 access_index_of_french_orders_under_standard =
     ((op.AccessIndex 4 1 0), [], Some (keyed_of_french_orders_under_standard))
     ∷ ((op.AccessIndex 4 1 4), [], Some (pushed_of_french_orders_under_standard))
+    ∷ ((op.AccessIndex 8 2 16), [], Some (of_order_of_french_orders_under_standard))
     ∷ ((op.AccessIndex 16 3 0), [], Some (parts_of_french_orders_under_standard))
     ∷ ((op.AccessIndex 4 1 8), [], None)
     ∷ ((op.AccessIndex 4 0 0), [], None)
@@ -352,6 +394,9 @@ join_nl_of_french_orders_under_standard =
     ∷ ((op.JoinNl 16), (lines_of_french_orders_under_standard ∷ keyed_of_french_orders_under_standard ∷ []), None)
     ∷ ((op.JoinNl 0), (lines_of_french_orders_under_standard ∷ pushed_of_french_orders_under_standard ∷ []), Some (record { tables = 12; cols = (0 ∷ 0 ∷ 2 ∷ 7 ∷ 0 ∷ 0 ∷ 0 ∷ 0 ∷ 0 ∷ 0 ∷ 0 ∷ 0 ∷ []); preds = 4; order = []; site = record { 0 = 1 }; temp = false; path = []; card = 60000000; cost = 199100000; rescan = 199100000 }))
     ∷ ((op.JoinNl 16), (orders_of_french_orders_under_standard ∷ lines_of_french_orders_under_standard ∷ []), Some (record { tables = 12; cols = (0 ∷ 0 ∷ 7 ∷ 7 ∷ 0 ∷ 0 ∷ 0 ∷ 0 ∷ 0 ∷ 0 ∷ 0 ∷ 0 ∷ []); preds = 24; order = []; site = record { 0 = 1 }; temp = false; path = []; card = 2000000; cost = 6550003260000; rescan = 6550003260000 }))
+    ∷ ((op.JoinNl 0), (orders_of_french_orders_under_standard ∷ of_order_of_french_orders_under_standard ∷ []), Some (record { tables = 12; cols = (0 ∷ 0 ∷ 7 ∷ 3 ∷ 0 ∷ 0 ∷ 0 ∷ 0 ∷ 0 ∷ 0 ∷ 0 ∷ 0 ∷ []); preds = 24; order = []; site = record { 0 = 1 }; temp = false; path = []; card = 2000000; cost = 12760000; rescan = 12760000 }))
+    ∷ ((op.JoinNl 0), (keyed_of_french_orders_under_standard ∷ of_order_of_french_orders_under_standard ∷ []), None)
+    ∷ ((op.JoinNl 0), (pushed_of_french_orders_under_standard ∷ of_order_of_french_orders_under_standard ∷ []), None)
     ∷ []
 
 abbrev pub join_hash_of_french_orders_under_standard : List (Op × List Props × Option Props)
@@ -361,6 +406,7 @@ join_hash_of_french_orders_under_standard =
     ∷ ((op.JoinHash 1 16), (customers_of_french_orders_under_standard ∷ nations_of_french_orders_under_standard ∷ []), None)
     ∷ ((op.JoinHash 5 0), (customers_of_french_orders_under_standard ∷ nations_of_french_orders_under_standard ∷ []), None)
     ∷ ((op.JoinHash 4 0), (customers_of_french_orders_under_standard ∷ orders_of_french_orders_under_standard ∷ []), None)
+    ∷ ((op.JoinHash 4 8), (customers_of_french_orders_under_standard ∷ all_shipped_of_french_orders_under_standard ∷ []), Some (record { tables = 5; cols = (7 ∷ 0 ∷ 7 ∷ 0 ∷ 0 ∷ 0 ∷ 0 ∷ 0 ∷ 0 ∷ 0 ∷ 0 ∷ 0 ∷ []); preds = 12; order = []; site = record { 0 = 0 }; temp = false; path = []; card = 500000; cost = 222596000; rescan = 222596000 }))
     ∷ ((op.JoinHash 4 0), (customers_of_french_orders_under_standard ∷ shipped_of_french_orders_under_standard ∷ []), Some (record { tables = 5; cols = (7 ∷ 0 ∷ 7 ∷ 0 ∷ 0 ∷ 0 ∷ 0 ∷ 0 ∷ 0 ∷ 0 ∷ 0 ∷ 0 ∷ []); preds = 12; order = []; site = record { 0 = 0 }; temp = false; path = []; card = 500000; cost = 76596000; rescan = 76596000 }))
     ∷ ((op.JoinHash 16 0), (keyed_of_french_orders_under_standard ∷ lines_of_french_orders_under_standard ∷ []), None)
     ∷ ((op.JoinHash 16 0), (lines_of_french_orders_under_standard ∷ keyed_of_french_orders_under_standard ∷ []), None)
@@ -479,6 +525,44 @@ join_hash_of_generated_under_variables =
     ∷ ((op.JoinHash 1 0), (c_of_generated_under_variables ∷ d_of_generated_under_variables ∷ []), Some (record { tables = 3; cols = (1 ∷ 3 ∷ 0 ∷ 0 ∷ 0 ∷ 0 ∷ 0 ∷ 0 ∷ 0 ∷ 0 ∷ 0 ∷ 0 ∷ []); preds = 1; order = []; site = record { 0 = 0 }; temp = false; path = []; card = 15; cost = 15000000001000001; rescan = 1013015008016024 }))
     ∷ []
 
+abbrev pub access_heap_of_french_orders_under_variables : List (Op × List Props × Option Props)
+access_heap_of_french_orders_under_variables =
+    ((op.AccessHeap 1 0), [], Some (customers_of_french_orders_under_variables))
+    ∷ ((op.AccessHeap 4 0), [], Some (orders_of_french_orders_under_variables))
+    ∷ []
+
+abbrev pub ship_of_french_orders_under_variables : List (Op × List Props × Option Props)
+ship_of_french_orders_under_variables =
+    ((op.Ship (record { 0 = 0 })), (orders_of_french_orders_under_variables ∷ []), Some (shipped_of_french_orders_under_variables))
+    ∷ []
+
+abbrev pub sort_of_french_orders_under_variables : List (Op × List Props × Option Props)
+sort_of_french_orders_under_variables =
+    ((op.Sort (record { quant = record { 0 = 2 }; column = 1 } ∷ [])), (shipped_of_french_orders_under_variables ∷ []), Some (sorted_of_french_orders_under_variables))
+    ∷ ((op.Sort (record { quant = record { 0 = 0 }; column = 0 } ∷ [])), (keyed_of_french_orders_under_variables ∷ []), Some (by_key_of_french_orders_under_variables))
+    ∷ []
+
+abbrev pub access_index_of_french_orders_under_variables : List (Op × List Props × Option Props)
+access_index_of_french_orders_under_variables =
+    ((op.AccessIndex 1 0 0), [], Some (keyed_of_french_orders_under_variables))
+    ∷ []
+
+abbrev pub join_hash_of_french_orders_under_variables : List (Op × List Props × Option Props)
+join_hash_of_french_orders_under_variables =
+    ((op.JoinHash 4 8), (customers_of_french_orders_under_variables ∷ shipped_of_french_orders_under_variables ∷ []), Some (record { tables = 5; cols = (7 ∷ 0 ∷ 7 ∷ 0 ∷ 0 ∷ 0 ∷ 0 ∷ 0 ∷ 0 ∷ 0 ∷ 0 ∷ 0 ∷ []); preds = 12; order = []; site = record { 0 = 0 }; temp = false; path = []; card = 500000; cost = 1000000000000000000; rescan = 1000000000000000000 }))
+    ∷ ((op.JoinHash 4 12), (shipped_of_french_orders_under_variables ∷ customers_of_french_orders_under_variables ∷ []), Some (record { tables = 5; cols = (7 ∷ 0 ∷ 7 ∷ 0 ∷ 0 ∷ 0 ∷ 0 ∷ 0 ∷ 0 ∷ 0 ∷ 0 ∷ 0 ∷ []); preds = 12; order = []; site = record { 0 = 0 }; temp = false; path = []; card = 500000; cost = 1000000000000000000; rescan = 152500000041024065 }))
+    ∷ []
+
+abbrev pub join_merge_of_french_orders_under_variables : List (Op × List Props × Option Props)
+join_merge_of_french_orders_under_variables =
+    ((op.JoinMerge 4 8), (by_key_of_french_orders_under_variables ∷ sorted_of_french_orders_under_variables ∷ []), Some (record { tables = 5; cols = (3 ∷ 0 ∷ 7 ∷ 0 ∷ 0 ∷ 0 ∷ 0 ∷ 0 ∷ 0 ∷ 0 ∷ 0 ∷ 0 ∷ []); preds = 12; order = (record { quant = record { 0 = 0 }; column = 0 } ∷ []); site = record { 0 = 0 }; temp = false; path = []; card = 500000; cost = 1000000000000000000; rescan = 1000000000000000000 }))
+    ∷ []
+
+abbrev pub join_nl_of_french_orders_under_variables : List (Op × List Props × Option Props)
+join_nl_of_french_orders_under_variables =
+    ((op.JoinNl 12), (customers_of_french_orders_under_variables ∷ shipped_of_french_orders_under_variables ∷ []), Some (record { tables = 5; cols = (7 ∷ 0 ∷ 7 ∷ 0 ∷ 0 ∷ 0 ∷ 0 ∷ 0 ∷ 0 ∷ 0 ∷ 0 ∷ 0 ∷ []); preds = 12; order = []; site = record { 0 = 0 }; temp = false; path = []; card = 500000; cost = 1000000000000000000; rescan = 1000000000000000000 }))
+    ∷ []
+
 abbrev pub access_heap_of_shipped_under_variables : List (Op × List Props × Option Props)
 access_heap_of_shipped_under_variables =
     ((op.AccessHeap 1 0), [], Some (t_of_shipped_under_variables))
@@ -519,4 +603,34 @@ ship_of_two_tables_under_variables =
 abbrev pub join_nl_of_two_tables_under_variables : List (Op × List Props × Option Props)
 join_nl_of_two_tables_under_variables =
     ((op.JoinNl 0), (n_of_two_tables_under_variables ∷ n_of_two_tables_under_variables ∷ []), None)
+    ∷ []
+
+abbrev pub access_heap_of_compared_under_standard : List (Op × List Props × Option Props)
+access_heap_of_compared_under_standard =
+    ((op.AccessHeap 1 0), [], Some (e_of_compared_under_standard))
+    ∷ ((op.AccessHeap 2 0), [], Some (f_of_compared_under_standard))
+    ∷ []
+
+abbrev pub card_of_compared_under_standard : List (ℕ × ℕ × ℕ)
+card_of_compared_under_standard =
+    (1, 1, 1000)
+    ∷ (1, 2, 334)
+    ∷ (1, 4, 334)
+    ∷ (1, 8, 334)
+    ∷ (1, 16, 334)
+    ∷ (1, 32, 100)
+    ∷ (1, 256, 1)
+    ∷ (1, 34, 34)
+    ∷ (3, 64, 1000000)
+    ∷ (3, 128, 100000)
+    ∷ (3, 160, 10000)
+    ∷ (2, 192, 100)
+    ∷ []
+
+abbrev pub join_hash_of_compared_under_standard : List (Op × List Props × Option Props)
+join_hash_of_compared_under_standard =
+    ((op.JoinHash 64 0), (e_of_compared_under_standard ∷ f_of_compared_under_standard ∷ []), None)
+    ∷ ((op.JoinHash 128 64), (e_of_compared_under_standard ∷ f_of_compared_under_standard ∷ []), Some (record { tables = 3; cols = (7 ∷ 3 ∷ 0 ∷ 0 ∷ 0 ∷ 0 ∷ 0 ∷ 0 ∷ 0 ∷ 0 ∷ 0 ∷ 0 ∷ []); preds = 192; order = []; site = record { 0 = 0 }; temp = false; path = []; card = 100000; cost = 7000; rescan = 7000 }))
+    ∷ ((op.JoinHash 32 0), (e_of_compared_under_standard ∷ f_of_compared_under_standard ∷ []), None)
+    ∷ ((op.JoinHash 130 0), (e_of_compared_under_standard ∷ f_of_compared_under_standard ∷ []), None)
     ∷ []

@@ -1,6 +1,6 @@
 -- Written by tools/worked_plans.
 -- The queries of the worked plans.
-use Rattle.std.specs.Prelude.{[], ◌∷◌, Some, None, codes, pos}
+use Rattle.std.specs.Prelude.{[], ◌∷◌, Some, None, codes, pos, neg_ℤ}
 use Rattle.star_model.specs.declared.catalogue.Value.TheVariants as constant
 use Rattle.star_model.specs.declared.query.Query.{Query}
 use Rattle.star_model.specs.declared.query.Cmp.TheVariants as cmp
@@ -33,6 +33,16 @@ colleagues = record {
   quants = (record { name = codes "d"; table = 1 } ∷ record { name = codes "e"; table = 0 } ∷ record { name = codes "f"; table = 0 } ∷ []);
   select = (record { quant = record { 0 = 1 }; column = 0 } ∷ []);
   preds = (record { left = record { quant = record { 0 = 1 }; column = 1 }; cmp = cmp.Eq; right = operand.Column (record { quant = record { 0 = 0 }; column = 0 }) } ∷ record { left = record { quant = record { 0 = 2 }; column = 1 }; cmp = cmp.Eq; right = operand.Column (record { quant = record { 0 = 1 }; column = 1 }) } ∷ []);
+  order = [];
+  site = None;
+}
+
+abbrev pub compared : Query
+compared = record {
+  catalogue = catalogue.staff;
+  quants = (record { name = codes "e"; table = 0 } ∷ record { name = codes "f"; table = 0 } ∷ []);
+  select = (record { quant = record { 0 = 0 }; column = 0 } ∷ record { quant = record { 0 = 1 }; column = 0 } ∷ []);
+  preds = (record { left = record { quant = record { 0 = 0 }; column = 1 }; cmp = cmp.Ne; right = operand.Constant (constant.Int (pos 3)) } ∷ record { left = record { quant = record { 0 = 0 }; column = 1 }; cmp = cmp.Lt; right = operand.Constant (constant.Int (pos 4)) } ∷ record { left = record { quant = record { 0 = 0 }; column = 1 }; cmp = cmp.Le; right = operand.Constant (constant.Int (pos 5)) } ∷ record { left = record { quant = record { 0 = 0 }; column = 1 }; cmp = cmp.Gt; right = operand.Constant (constant.Int (pos 1)) } ∷ record { left = record { quant = record { 0 = 0 }; column = 1 }; cmp = cmp.Ge; right = operand.Constant (constant.Int (neg_ℤ (pos 2))) } ∷ record { left = record { quant = record { 0 = 0 }; column = 1 }; cmp = cmp.Eq; right = operand.Constant (constant.Int (pos 3)) } ∷ record { left = record { quant = record { 0 = 0 }; column = 0 }; cmp = cmp.Ne; right = operand.Column (record { quant = record { 0 = 1 }; column = 0 }) } ∷ record { left = record { quant = record { 0 = 0 }; column = 1 }; cmp = cmp.Eq; right = operand.Column (record { quant = record { 0 = 1 }; column = 1 }) } ∷ record { left = record { quant = record { 0 = 0 }; column = 2 }; cmp = cmp.Eq; right = operand.Constant (constant.Text (codes "O'Hara")) } ∷ []);
   order = [];
   site = None;
 }

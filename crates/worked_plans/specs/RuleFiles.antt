@@ -279,6 +279,15 @@ glue_in_access = record {
       ∷ [];
 }
 
+abbrev pub glue_in_join_of_access : RuleFile
+glue_in_join_of_access = record {
+  formulas = formulas_of_stored_tiny;
+  stars =
+      record { statement = 9; name = codes "AccessRoot"; params = (record { name = codes "A"; kind = kind.Stream } ∷ record { name = codes "J"; kind = kind.Preds } ∷ []); alternatives = (record { ranges = []; condition = None; body = (e.Binary flavour.JoinNl (value.NoPreds ∷ []) (plan.Leaf flavour.AccessHeap ((value.Variable (codes "A") 0) ∷ (value.Variable (codes "J") 1) ∷ [])) (plan.Glue (value.Variable (codes "A") 0) (value.Variable (codes "J") 1))) } ∷ []) }
+      ∷ record { statement = 10; name = codes "JoinRoot"; params = (record { name = codes "A"; kind = kind.Stream } ∷ record { name = codes "B"; kind = kind.Stream } ∷ record { name = codes "J"; kind = kind.Preds } ∷ []); alternatives = (record { ranges = []; condition = None; body = (plan.Leaf flavour.AccessHeap ((value.Variable (codes "A") 0) ∷ (value.Variable (codes "J") 2) ∷ [])) } ∷ []) }
+      ∷ [];
+}
+
 abbrev pub formulas_of_no_access_root : List FormulaDef
 formulas_of_no_access_root =
     []
@@ -324,6 +333,44 @@ no_rescan = record {
   stars =
       record { statement = 8; name = codes "AccessRoot"; params = (record { name = codes "A"; kind = kind.Stream } ∷ record { name = codes "J"; kind = kind.Preds } ∷ []); alternatives = (record { ranges = []; condition = None; body = (plan.Leaf flavour.AccessHeap ((value.Variable (codes "A") 0) ∷ (value.Variable (codes "J") 1) ∷ [])) } ∷ []) }
       ∷ record { statement = 9; name = codes "JoinRoot"; params = (record { name = codes "A"; kind = kind.Stream } ∷ record { name = codes "B"; kind = kind.Stream } ∷ record { name = codes "J"; kind = kind.Preds } ∷ []); alternatives = (record { ranges = []; condition = None; body = (plan.Leaf flavour.AccessHeap ((value.Variable (codes "A") 0) ∷ (value.Variable (codes "J") 2) ∷ [])) } ∷ []) }
+      ∷ [];
+}
+
+abbrev pub formulas_of_no_ship : List FormulaDef
+formulas_of_no_ship =
+    record { statement = 1; flavour = flavour.AccessHeap; which = which.Cost; formula = (f.Add (f.Mul (formula.Number 10) (formula.Variable var.Pages)) (f.Mul (formula.Variable var.Cpu) (formula.Variable var.Rows))) }
+    ∷ record { statement = 2; flavour = flavour.AccessHeap; which = which.Rescan; formula = (f.Add (f.Mul (formula.Number 10) (formula.Variable var.Pages)) (f.Mul (formula.Variable var.Cpu) (formula.Variable var.Rows))) }
+    ∷ record { statement = 3; flavour = flavour.Sort; which = which.Cost; formula = (f.Add (formula.Variable var.Cost1) (f.Mul (formula.Number 4) (formula.Variable var.Card1))) }
+    ∷ record { statement = 4; flavour = flavour.Sort; which = which.Rescan; formula = (f.Add (formula.Variable var.Rescan1) (f.Mul (formula.Number 4) (formula.Variable var.Card1))) }
+    ∷ record { statement = 5; flavour = flavour.Store; which = which.Cost; formula = (f.Add (formula.Variable var.Cost1) (f.Mul (formula.Number 2) (formula.Variable var.Card1))) }
+    ∷ record { statement = 6; flavour = flavour.Store; which = which.Rescan; formula = (formula.Variable var.Card1) }
+    ∷ []
+
+abbrev pub no_ship : RuleFile
+no_ship = record {
+  formulas = formulas_of_no_ship;
+  stars =
+      record { statement = 7; name = codes "AccessRoot"; params = (record { name = codes "A"; kind = kind.Stream } ∷ record { name = codes "J"; kind = kind.Preds } ∷ []); alternatives = (record { ranges = []; condition = None; body = (plan.Leaf flavour.AccessHeap ((value.Variable (codes "A") 0) ∷ (value.Variable (codes "J") 1) ∷ [])) } ∷ []) }
+      ∷ record { statement = 8; name = codes "JoinRoot"; params = (record { name = codes "A"; kind = kind.Stream } ∷ record { name = codes "B"; kind = kind.Stream } ∷ record { name = codes "J"; kind = kind.Preds } ∷ []); alternatives = (record { ranges = []; condition = None; body = (plan.Leaf flavour.AccessHeap ((value.Variable (codes "A") 0) ∷ (value.Variable (codes "J") 2) ∷ [])) } ∷ []) }
+      ∷ [];
+}
+
+abbrev pub formulas_of_no_sort : List FormulaDef
+formulas_of_no_sort =
+    record { statement = 1; flavour = flavour.AccessHeap; which = which.Cost; formula = (f.Add (f.Mul (formula.Number 10) (formula.Variable var.Pages)) (f.Mul (formula.Variable var.Cpu) (formula.Variable var.Rows))) }
+    ∷ record { statement = 2; flavour = flavour.AccessHeap; which = which.Rescan; formula = (f.Add (f.Mul (formula.Number 10) (formula.Variable var.Pages)) (f.Mul (formula.Variable var.Cpu) (formula.Variable var.Rows))) }
+    ∷ record { statement = 3; flavour = flavour.Store; which = which.Cost; formula = (f.Add (formula.Variable var.Cost1) (f.Mul (formula.Number 2) (formula.Variable var.Card1))) }
+    ∷ record { statement = 4; flavour = flavour.Store; which = which.Rescan; formula = (formula.Variable var.Card1) }
+    ∷ record { statement = 5; flavour = flavour.Ship; which = which.Cost; formula = (f.Add (formula.Variable var.Cost1) (f.Mul (f.Mul (formula.Variable var.Net) (formula.Variable var.Card1)) (formula.Variable var.Width1))) }
+    ∷ record { statement = 6; flavour = flavour.Ship; which = which.Rescan; formula = (f.Add (formula.Variable var.Rescan1) (f.Mul (f.Mul (formula.Variable var.Net) (formula.Variable var.Card1)) (formula.Variable var.Width1))) }
+    ∷ []
+
+abbrev pub no_sort : RuleFile
+no_sort = record {
+  formulas = formulas_of_no_sort;
+  stars =
+      record { statement = 7; name = codes "AccessRoot"; params = (record { name = codes "A"; kind = kind.Stream } ∷ record { name = codes "J"; kind = kind.Preds } ∷ []); alternatives = (record { ranges = []; condition = None; body = (plan.Leaf flavour.AccessHeap ((value.Variable (codes "A") 0) ∷ (value.Variable (codes "J") 1) ∷ [])) } ∷ []) }
+      ∷ record { statement = 8; name = codes "JoinRoot"; params = (record { name = codes "A"; kind = kind.Stream } ∷ record { name = codes "B"; kind = kind.Stream } ∷ record { name = codes "J"; kind = kind.Preds } ∷ []); alternatives = (record { ranges = []; condition = None; body = (plan.Leaf flavour.AccessHeap ((value.Variable (codes "A") 0) ∷ (value.Variable (codes "J") 2) ∷ [])) } ∷ []) }
       ∷ [];
 }
 
@@ -434,6 +481,15 @@ unknown_in_condition = record {
       ∷ [];
 }
 
+abbrev pub unknown_in_input : RuleFile
+unknown_in_input = record {
+  formulas = formulas_of_stored_tiny;
+  stars =
+      record { statement = 9; name = codes "AccessRoot"; params = (record { name = codes "A"; kind = kind.Stream } ∷ record { name = codes "J"; kind = kind.Preds } ∷ []); alternatives = (record { ranges = []; condition = None; body = (e.Unary flavour.Store (value.NoCols ∷ []) (plan.Leaf flavour.AccessHeap ((value.Variable (codes "A") 0) ∷ (value.Variable (codes "K") 255) ∷ []))) } ∷ []) }
+      ∷ record { statement = 10; name = codes "JoinRoot"; params = (record { name = codes "A"; kind = kind.Stream } ∷ record { name = codes "B"; kind = kind.Stream } ∷ record { name = codes "J"; kind = kind.Preds } ∷ []); alternatives = (record { ranges = []; condition = None; body = (plan.Leaf flavour.AccessHeap ((value.Variable (codes "A") 0) ∷ (value.Variable (codes "J") 2) ∷ [])) } ∷ []) }
+      ∷ [];
+}
+
 abbrev pub unknown_in_range : RuleFile
 unknown_in_range = record {
   formulas = formulas_of_stored_tiny;
@@ -461,12 +517,31 @@ unknown_star = record {
       ∷ [];
 }
 
+abbrev pub unknown_star_in_join : RuleFile
+unknown_star_in_join = record {
+  formulas = formulas_of_stored_tiny;
+  stars =
+      record { statement = 9; name = codes "AccessRoot"; params = (record { name = codes "A"; kind = kind.Stream } ∷ record { name = codes "J"; kind = kind.Preds } ∷ []); alternatives = (record { ranges = []; condition = None; body = (plan.Leaf flavour.AccessHeap ((value.Variable (codes "A") 0) ∷ (value.Variable (codes "J") 1) ∷ [])) } ∷ []) }
+      ∷ record { statement = 10; name = codes "JoinRoot"; params = (record { name = codes "A"; kind = kind.Stream } ∷ record { name = codes "B"; kind = kind.Stream } ∷ record { name = codes "J"; kind = kind.Preds } ∷ []); alternatives = (record { ranges = []; condition = None; body = (e.Binary flavour.JoinNl (value.NoPreds ∷ []) (plan.Glue (value.Variable (codes "A") 0) (value.Variable (codes "J") 2)) (plan.Reference (codes "Other") ((value.Variable (codes "B") 1) ∷ (value.Variable (codes "J") 2) ∷ []))) } ∷ []) }
+      ∷ [];
+}
+
 abbrev pub wrong_count : RuleFile
 wrong_count = record {
   formulas = formulas_of_stored_tiny;
   stars =
       record { statement = 9; name = codes "AccessRoot"; params = (record { name = codes "A"; kind = kind.Stream } ∷ []); alternatives = (record { ranges = []; condition = None; body = (plan.Leaf flavour.AccessHeap ((value.Variable (codes "A") 0) ∷ value.NoPreds ∷ [])) } ∷ []) }
       ∷ record { statement = 10; name = codes "JoinRoot"; params = (record { name = codes "A"; kind = kind.Stream } ∷ record { name = codes "B"; kind = kind.Stream } ∷ record { name = codes "J"; kind = kind.Preds } ∷ []); alternatives = (record { ranges = []; condition = None; body = (plan.Leaf flavour.AccessHeap ((value.Variable (codes "A") 0) ∷ (value.Variable (codes "J") 2) ∷ [])) } ∷ []) }
+      ∷ [];
+}
+
+abbrev pub wrong_count_in_join : RuleFile
+wrong_count_in_join = record {
+  formulas = formulas_of_stored_tiny;
+  stars =
+      record { statement = 9; name = codes "AccessRoot"; params = (record { name = codes "A"; kind = kind.Stream } ∷ record { name = codes "J"; kind = kind.Preds } ∷ []); alternatives = (record { ranges = []; condition = None; body = (plan.Leaf flavour.AccessHeap ((value.Variable (codes "A") 0) ∷ (value.Variable (codes "J") 1) ∷ [])) } ∷ []) }
+      ∷ record { statement = 10; name = codes "JoinRoot"; params = (record { name = codes "A"; kind = kind.Stream } ∷ record { name = codes "B"; kind = kind.Stream } ∷ record { name = codes "J"; kind = kind.Preds } ∷ []); alternatives = (record { ranges = []; condition = None; body = (e.Binary flavour.JoinNl (value.NoPreds ∷ []) (plan.Reference (codes "Other") ((value.Variable (codes "A") 0) ∷ (value.Variable (codes "J") 2) ∷ [])) (plan.Reference (codes "Other") ((value.Variable (codes "B") 1) ∷ []))) } ∷ []) }
+      ∷ record { statement = 11; name = codes "Other"; params = (record { name = codes "A"; kind = kind.Stream } ∷ record { name = codes "J"; kind = kind.Preds } ∷ []); alternatives = (record { ranges = []; condition = None; body = (plan.Leaf flavour.AccessHeap ((value.Variable (codes "A") 0) ∷ (value.Variable (codes "J") 1) ∷ [])) } ∷ []) }
       ∷ [];
 }
 
@@ -513,6 +588,15 @@ wrong_kind_in_glue = record {
   stars =
       record { statement = 9; name = codes "AccessRoot"; params = (record { name = codes "A"; kind = kind.Stream } ∷ record { name = codes "J"; kind = kind.Preds } ∷ []); alternatives = (record { ranges = []; condition = None; body = (plan.Leaf flavour.AccessHeap ((value.Variable (codes "A") 0) ∷ (value.Variable (codes "J") 1) ∷ [])) } ∷ []) }
       ∷ record { statement = 10; name = codes "JoinRoot"; params = (record { name = codes "A"; kind = kind.Stream } ∷ record { name = codes "B"; kind = kind.Stream } ∷ record { name = codes "J"; kind = kind.Preds } ∷ []); alternatives = (record { ranges = []; condition = None; body = (plan.Glue (value.Variable (codes "J") 2) (value.Variable (codes "J") 2)) } ∷ []) }
+      ∷ [];
+}
+
+abbrev pub wrong_kind_in_input : RuleFile
+wrong_kind_in_input = record {
+  formulas = formulas_of_stored_tiny;
+  stars =
+      record { statement = 9; name = codes "AccessRoot"; params = (record { name = codes "A"; kind = kind.Stream } ∷ record { name = codes "J"; kind = kind.Preds } ∷ []); alternatives = (record { ranges = []; condition = None; body = (e.Unary flavour.Store (value.NoCols ∷ []) (plan.Leaf flavour.AccessHeap ((value.Variable (codes "A") 0) ∷ (value.Variable (codes "A") 0) ∷ []))) } ∷ []) }
+      ∷ record { statement = 10; name = codes "JoinRoot"; params = (record { name = codes "A"; kind = kind.Stream } ∷ record { name = codes "B"; kind = kind.Stream } ∷ record { name = codes "J"; kind = kind.Preds } ∷ []); alternatives = (record { ranges = []; condition = None; body = (plan.Leaf flavour.AccessHeap ((value.Variable (codes "A") 0) ∷ (value.Variable (codes "J") 2) ∷ [])) } ∷ []) }
       ∷ [];
 }
 

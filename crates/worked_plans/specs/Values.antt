@@ -13,7 +13,7 @@ use Rattle.star_model.specs.declared.values.RuleValue.{RuleValue}
 use Rattle.star_model.specs.declared.values.RuleValue.TheVariants as is
 
 abbrev pub bound_in_cities : List RuleValue
-bound_in_cities = (is.Stream (record { tables = 1; require = record { order = []; site = None; temp = false; path = [] } }) ∷ is.Quants 1 ∷ is.Quants 2 ∷ is.Quants 3 ∷ is.Quants 0 ∷ is.Preds 1 ∷ [])
+bound_in_cities = (is.Stream (record { tables = 1; require = record { order = []; site = None; temp = false; path = [] } }) ∷ is.Quants 1 ∷ is.Quants 2 ∷ is.Quants 3 ∷ is.Quants 0 ∷ is.Preds 1 ∷ is.Cols (record { quant = record { 0 = 0 }; column = 0 } ∷ []) ∷ is.Cols (record { quant = record { 0 = 1 }; column = 0 } ∷ []) ∷ [])
 
 abbrev pub tables_of_cities : List (ValueExpr × RuleValue)
 tables_of_cities =
@@ -66,6 +66,16 @@ single_of_cities =
     ((condition.Single (value.Variable (codes "a") 1)), true)
     ∷ ((condition.Single (value.Variable (codes "ab") 3)), false)
     ∷ ((condition.Single (value.Variable (codes "nothing") 4)), false)
+    ∷ []
+
+abbrev pub begins_of_cities : List (Condition × Bool)
+begins_of_cities =
+    ((condition.Begins (value.Variable (codes "D") 6) (value.Variable (codes "E") 7)), false)
+    ∷ []
+
+abbrev pub same_of_cities : List (Condition × Bool)
+same_of_cities =
+    ((condition.Same (value.Variable (codes "D") 6) (value.Variable (codes "E") 7)), false)
     ∷ []
 
 abbrev pub bound_in_unshipped : List RuleValue
@@ -400,4 +410,33 @@ members_of_french_orders =
 abbrev pub each_of_french_orders : List (Range × List RuleValue)
 each_of_french_orders =
     (range.Each (value.Variable (codes "J") 7), (is.Preds 1 ∷ is.Preds 4 ∷ []))
+    ∷ []
+
+abbrev pub bound_in_compared : List RuleValue
+bound_in_compared = (is.Quants 1 ∷ is.Quants 2 ∷ is.Preds 511 ∷ [])
+
+abbrev pub equalities_of_compared : List (ValueExpr × RuleValue)
+equalities_of_compared =
+    ((v.Equalities (value.Variable (codes "K") 2)), is.Preds 128)
+    ∷ []
+
+abbrev pub inside_of_compared : List (ValueExpr × RuleValue)
+inside_of_compared =
+    ((v.Inside (value.Variable (codes "a") 0)), is.Preds 319)
+    ∷ ((v.Inside (value.Variable (codes "b") 1)), is.Preds 0)
+    ∷ []
+
+abbrev pub crossing_of_compared : List (ValueExpr × RuleValue)
+crossing_of_compared =
+    ((v.Crossing (value.Variable (codes "a") 0)), is.Preds 192)
+    ∷ []
+
+abbrev pub between_of_compared : List (ValueExpr × RuleValue)
+between_of_compared =
+    ((v.Between (value.Variable (codes "a") 0) (value.Variable (codes "b") 1)), is.Preds 192)
+    ∷ []
+
+abbrev pub keys_of_compared : List (ValueExpr × RuleValue)
+keys_of_compared =
+    ((v.Keys (value.Variable (codes "K") 2) (value.Variable (codes "b") 1)), is.Cols (record { quant = record { 0 = 1 }; column = 0 } ∷ record { quant = record { 0 = 1 }; column = 1 } ∷ []))
     ∷ []

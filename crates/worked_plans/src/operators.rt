@@ -40,11 +40,6 @@ pub fn ship_of_cities_under_standard()
     ensures { StepsAs query.cities rules.standard row.ship_of_cities_under_standard }
 {}
 
-/// The rows of `probe` for `cities.query`, with the costs of `standard.rules`.
-pub fn probe_of_cities_under_standard()
-    ensures { StepsAs query.cities rules.standard row.probe_of_cities_under_standard }
-{}
-
 /// The rows of `join_nl` for `cities.query`, with the costs of `standard.rules`.
 pub fn join_nl_of_cities_under_standard()
     ensures { StepsAs query.cities rules.standard row.join_nl_of_cities_under_standard }
@@ -53,6 +48,11 @@ pub fn join_nl_of_cities_under_standard()
 /// The rows of `join_hash` for `cities.query`, with the costs of `standard.rules`.
 pub fn join_hash_of_cities_under_standard()
     ensures { StepsAs query.cities rules.standard row.join_hash_of_cities_under_standard }
+{}
+
+/// The rows of `probe` for `cities.query`, with the costs of `standard.rules`.
+pub fn probe_of_cities_under_standard()
+    ensures { StepsAs query.cities rules.standard row.probe_of_cities_under_standard }
 {}
 
 /// The rows of `join_merge` for `cities.query`, with the costs of `standard.rules`.
@@ -260,6 +260,41 @@ pub fn join_hash_of_generated_under_variables()
     ensures { StepsAs query.generated rules.variables row.join_hash_of_generated_under_variables }
 {}
 
+/// The rows of `access_heap` for `french_orders.query`, with the costs of `variables.rules`.
+pub fn access_heap_of_french_orders_under_variables()
+    ensures { StepsAs query.french_orders rules.variables row.access_heap_of_french_orders_under_variables }
+{}
+
+/// The rows of `ship` for `french_orders.query`, with the costs of `variables.rules`.
+pub fn ship_of_french_orders_under_variables()
+    ensures { StepsAs query.french_orders rules.variables row.ship_of_french_orders_under_variables }
+{}
+
+/// The rows of `sort` for `french_orders.query`, with the costs of `variables.rules`.
+pub fn sort_of_french_orders_under_variables()
+    ensures { StepsAs query.french_orders rules.variables row.sort_of_french_orders_under_variables }
+{}
+
+/// The rows of `access_index` for `french_orders.query`, with the costs of `variables.rules`.
+pub fn access_index_of_french_orders_under_variables()
+    ensures { StepsAs query.french_orders rules.variables row.access_index_of_french_orders_under_variables }
+{}
+
+/// The rows of `join_hash` for `french_orders.query`, with the costs of `variables.rules`.
+pub fn join_hash_of_french_orders_under_variables()
+    ensures { StepsAs query.french_orders rules.variables row.join_hash_of_french_orders_under_variables }
+{}
+
+/// The rows of `join_merge` for `french_orders.query`, with the costs of `variables.rules`.
+pub fn join_merge_of_french_orders_under_variables()
+    ensures { StepsAs query.french_orders rules.variables row.join_merge_of_french_orders_under_variables }
+{}
+
+/// The rows of `join_nl` for `french_orders.query`, with the costs of `variables.rules`.
+pub fn join_nl_of_french_orders_under_variables()
+    ensures { StepsAs query.french_orders rules.variables row.join_nl_of_french_orders_under_variables }
+{}
+
 /// The rows of `access_heap` for `shipped.query`, with the costs of `variables.rules`.
 pub fn access_heap_of_shipped_under_variables()
     ensures { StepsAs query.shipped rules.variables row.access_heap_of_shipped_under_variables }
@@ -298,4 +333,19 @@ pub fn ship_of_two_tables_under_variables()
 /// The rows of `join_nl` for `two_tables.query`, with the costs of `variables.rules`.
 pub fn join_nl_of_two_tables_under_variables()
     ensures { StepsAs query.two_tables rules.variables row.join_nl_of_two_tables_under_variables }
+{}
+
+/// The rows of `access_heap` for `compared.query`, with the costs of `standard.rules`.
+pub fn access_heap_of_compared_under_standard()
+    ensures { StepsAs query.compared rules.standard row.access_heap_of_compared_under_standard }
+{}
+
+/// The rows of `card` for `compared.query`, with the costs of `standard.rules`.
+pub fn card_of_compared_under_standard()
+    ensures { HasCards query.compared row.card_of_compared_under_standard }
+{}
+
+/// The rows of `join_hash` for `compared.query`, with the costs of `standard.rules`.
+pub fn join_hash_of_compared_under_standard()
+    ensures { StepsAs query.compared rules.standard row.join_hash_of_compared_under_standard }
 {}

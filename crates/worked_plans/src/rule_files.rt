@@ -107,6 +107,16 @@ pub fn refused_no_rescan()
     ensures { HasFault rules.no_rescan (fault.NoFormula flavour.Store) }
 {}
 
+/// `no_ship.rules`: no formula for SHIP.
+pub fn refused_no_ship()
+    ensures { HasFault rules.no_ship (fault.NoFormula flavour.Ship) }
+{}
+
+/// `no_sort.rules`: no formula for SORT.
+pub fn refused_no_sort()
+    ensures { HasFault rules.no_sort (fault.NoFormula flavour.Sort) }
+{}
+
 /// `not_monotone.rules`: cost of SORT is not monotone at node 3.
 pub fn refused_not_monotone()
     ensures { HasFault rules.not_monotone (fault.NotMonotone flavour.Sort which.Cost 3) }
@@ -142,6 +152,11 @@ pub fn refused_unknown_in_condition()
     ensures { HasFault rules.unknown_in_condition (fault.Unknown 10) }
 {}
 
+/// `unknown_in_input.rules`: unknown name in statement 9.
+pub fn refused_unknown_in_input()
+    ensures { HasFault rules.unknown_in_input (fault.Unknown 9) }
+{}
+
 /// `unknown_in_range.rules`: unknown name in statement 10.
 pub fn refused_unknown_in_range()
     ensures { HasFault rules.unknown_in_range (fault.Unknown 10) }
@@ -157,9 +172,19 @@ pub fn refused_unknown_star()
     ensures { HasFault rules.unknown_star (fault.Unknown 9) }
 {}
 
+/// `unknown_star_in_join.rules`: unknown name in statement 10.
+pub fn refused_unknown_star_in_join()
+    ensures { HasFault rules.unknown_star_in_join (fault.Unknown 10) }
+{}
+
 /// `wrong_count.rules`: wrong number of arguments in statement 9.
 pub fn refused_wrong_count()
     ensures { HasFault rules.wrong_count (fault.Arity 9) }
+{}
+
+/// `wrong_count_in_join.rules`: wrong number of arguments in statement 10.
+pub fn refused_wrong_count_in_join()
+    ensures { HasFault rules.wrong_count_in_join (fault.Arity 10) }
 {}
 
 /// `wrong_count_of_arguments.rules`: wrong number of arguments in statement 9.
@@ -185,6 +210,11 @@ pub fn refused_wrong_kind_in_condition()
 /// `wrong_kind_in_glue.rules`: wrong kind in statement 10.
 pub fn refused_wrong_kind_in_glue()
     ensures { HasFault rules.wrong_kind_in_glue (fault.Kind 10) }
+{}
+
+/// `wrong_kind_in_input.rules`: wrong kind in statement 9.
+pub fn refused_wrong_kind_in_input()
+    ensures { HasFault rules.wrong_kind_in_input (fault.Kind 9) }
 {}
 
 /// `wrong_kind_in_range.rules`: wrong kind in statement 10.

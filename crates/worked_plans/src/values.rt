@@ -49,6 +49,16 @@ pub fn single_of_cities()
     ensures { HoldAs query.cities row.bound_in_cities row.single_of_cities }
 {}
 
+/// The rows of `begins` for `cities.query`.
+pub fn begins_of_cities()
+    ensures { HoldAs query.cities row.bound_in_cities row.begins_of_cities }
+{}
+
+/// The rows of `same` for `cities.query`.
+pub fn same_of_cities()
+    ensures { HoldAs query.cities row.bound_in_cities row.same_of_cities }
+{}
+
 /// The rows of `querysite` for `unshipped.query`.
 pub fn querysite_of_unshipped()
     ensures { MeanAs query.unshipped row.bound_in_unshipped row.querysite_of_unshipped }
@@ -297,4 +307,29 @@ pub fn members_of_french_orders()
 /// The rows of `each` for `french_orders.query`.
 pub fn each_of_french_orders()
     ensures { RangeAs query.french_orders row.bound_in_french_orders row.each_of_french_orders }
+{}
+
+/// The rows of `equalities` for `compared.query`.
+pub fn equalities_of_compared()
+    ensures { MeanAs query.compared row.bound_in_compared row.equalities_of_compared }
+{}
+
+/// The rows of `inside` for `compared.query`.
+pub fn inside_of_compared()
+    ensures { MeanAs query.compared row.bound_in_compared row.inside_of_compared }
+{}
+
+/// The rows of `crossing` for `compared.query`.
+pub fn crossing_of_compared()
+    ensures { MeanAs query.compared row.bound_in_compared row.crossing_of_compared }
+{}
+
+/// The rows of `between` for `compared.query`.
+pub fn between_of_compared()
+    ensures { MeanAs query.compared row.bound_in_compared row.between_of_compared }
+{}
+
+/// The rows of `keys` for `compared.query`.
+pub fn keys_of_compared()
+    ensures { MeanAs query.compared row.bound_in_compared row.keys_of_compared }
 {}
