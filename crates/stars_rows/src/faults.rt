@@ -8,7 +8,11 @@ use std::test::Fail;
 const AMPLE: usize = 10_000;
 
 // What a run over the smallest files comes to; the rule file is held under two names, and one name has two files.
-fn run_words(alloc: Global, words: &[&str], failing: &[u32]) -> Result<String, AllocError> {
+fn run_words<'a>(
+    alloc: Global,
+    words: &'a [&'a str],
+    failing: &'a [u32],
+) -> Result<String, AllocError> {
     let given = Given {
         words,
         files: &[
@@ -118,11 +122,11 @@ fn reads_files_in_order(rt: HostRuntime) -> Result<(), Fail> {
 }
 
 // What a run over these rules and the smallest catalogue and query comes to, on sinks that may fail.
-fn run_sinks(
+fn run_sinks<'a>(
     alloc: Global,
-    rules: &str,
+    rules: &'a str,
     room: usize,
-    failing_lines: &[(u32, usize)],
+    failing_lines: &'a [(u32, usize)],
 ) -> Result<String, AllocError> {
     let given = Given {
         words: &["plan", "r", "c", "q"],
