@@ -1,162 +1,121 @@
 // Words that are no command, shelves and sinks that fail, statuses by their numbers, and the call over three texts.
-use crate::runs::{Given, run};
+use crate::runs::{Faults, NO_FAULTS, run};
 use crate::texts::{DERIVATION, SELECTION, TABLE, TINY};
 use stars_core::{Answer, Refusal, Status, plan_texts};
 use std::alloc::{AllocError, Global};
 use std::test::Fail;
 
-const AMPLE: usize = 10_000;
-
-// What a run over the smallest files comes to; the rule file is held under two names, and one name has two files.
-fn run_words<'a>(
-    alloc: Global,
-    words: &'a [&'a str],
-    failing: &'a [u32],
-) -> Result<String, AllocError> {
-    let given = Given {
-        words,
-        files: &[
-            ("r", TINY.as_bytes()),
-            ("c", TABLE.as_bytes()),
-            ("q", SELECTION.as_bytes()),
-            ("a-b", TINY.as_bytes()),
-            ("a-b", b"?"),
-        ],
-        failing,
-        room: AMPLE,
-        failing_lines: &[],
-    };
-    run(alloc, &given)
+// What the words of a line come to over the smallest files.
+fn run_tiny(alloc: Global, line: &str, faults: Faults) -> Result<String, AllocError> {
+    let rules = TINY.as_bytes();
+    let catalogue = TABLE.as_bytes();
+    let query = SELECTION.as_bytes();
+    run(alloc, line, rules, catalogue, query, faults)
 }
 
 #[test]
 fn tells_usage(rt: HostRuntime) -> Result<(), Fail> {
     let alloc = rt.alloc();
-    let rows: [&[&str]; 11] = [
-        &[],
-        &[""],
-        &["plan"],
-        &["plan", "r"],
-        &["plan", "r", "c"],
-        &["plan", "r", "c", "q", "q"],
-        &["PLAN", "r", "c", "q"],
-        &["r", "c", "q", "plan"],
-        &["-plan", "r", "c", "q"],
-        &["plan", "r", "c", "-"],
-        &["--help"],
+    let lines = [
+        "",
+        " ",
+        "plan",
+        "plan r",
+        "plan r c",
+        "plan r c q q",
+        "PLAN r c q",
+        "r c q plan",
+        "-plan r c q",
+        "plan r c -",
+        "--help",
     ];
-    let wanted = "Usage, calls 0\nout: \nerr: usage: stars COMMAND FILE...\n";
-    for words in rows {
-        let told = run_words(alloc, words, &[])?;
-        assert_eq!(rt; told.as_str(), wanted, "{words:?}");
+    for line in lines {
+        let told = run_tiny(alloc, line, NO_FAULTS)?;
+        let wanted = "Usage, calls 0\nout: \nerr: usage: stars COMMAND FILE...\n";
+        assert_eq!(rt; told.as_str(), wanted, "{line}");
     }
     Ok(())
 }
 
+// A call of the shelf that fails, and names that aren't held.
+#[test]
+fn tells_what_it_cannot_read(rt: HostRuntime) -> Result<(), Fail> {
+    let alloc = rt.alloc();
+    let rows = [
+        ("plan r c q", 1, 1, "r"),
+        ("plan r c q", 2, 2, "c"),
+        ("plan r c q", 3, 3, "q"),
+        ("plan none c q", 0, 1, "none"),
+        ("plan a-b c q", 0, 1, "a-b"),
+        ("plan r  q", 0, 2, ""),
+        ("plan r c R", 0, 3, "R"),
+    ];
+    for (line, call, calls, name) in rows {
+        let faults = Faults { call, ..NO_FAULTS };
+        let told = run_tiny(alloc, line, faults)?;
+        let wanted = format!(in alloc;
+            "ReadFault, calls {calls}\nout: \nerr: cannot read {name}\n"
+        )?;
+        assert_eq!(rt; told.as_str(), wanted.as_str(), "{line}, failing {call}");
+    }
+    Ok(())
+}
+
+// Each file is read, and refused, before the next.
 #[test]
 fn reads_files_in_order(rt: HostRuntime) -> Result<(), Fail> {
     let alloc = rt.alloc();
-    let done = format!(in alloc;
-        "Done, calls 3\nout: # cost 0 rescan 0 card 0\n{DERIVATION}\nerr: "
-    )?;
-    let done = done.as_str();
-    let rows: [([&str; 3], &[u32], &str); 12] = [
-        (["r", "c", "q"], &[], done),
-        (["r", "c", "q"], &[4], done),
-        (["a-b", "c", "q"], &[], done),
+    let unbuilt = "statement 1 is not built yet";
+    let rows = [
         (
-            ["r", "c", "q"],
-            &[1],
-            "ReadFault, calls 1\nout: \nerr: cannot read r\n",
+            "plan r r r",
+            "CatalogueRefused, calls 2\nout: \nerr: catalogue",
         ),
         (
-            ["r", "c", "q"],
-            &[2],
-            "ReadFault, calls 2\nout: \nerr: cannot read c\n",
+            "plan c none none",
+            "RulesRefused, calls 1\nout: \nerr: rules",
         ),
         (
-            ["r", "c", "q"],
-            &[3],
-            "ReadFault, calls 3\nout: \nerr: cannot read q\n",
+            "plan r q none",
+            "CatalogueRefused, calls 2\nout: \nerr: catalogue",
         ),
-        (
-            ["r", "c", "q"],
-            &[3, 2],
-            "ReadFault, calls 2\nout: \nerr: cannot read c\n",
-        ),
-        (
-            ["none", "c", "q"],
-            &[],
-            "ReadFault, calls 1\nout: \nerr: cannot read none\n",
-        ),
-        (
-            ["r", "", "q"],
-            &[],
-            "ReadFault, calls 2\nout: \nerr: cannot read \n",
-        ),
-        (
-            ["r", "c", "no such"],
-            &[],
-            "ReadFault, calls 3\nout: \nerr: cannot read no such\n",
-        ),
-        (
-            ["r", "r", "r"],
-            &[],
-            "CatalogueRefused, calls 2\nout: \nerr: catalogue: statement 1 is not built yet\n",
-        ),
-        (
-            ["c", "none", "none"],
-            &[],
-            "RulesRefused, calls 1\nout: \nerr: rules: statement 1 is not built yet\n",
-        ),
+        ("plan r c c", "QueryRefused, calls 3\nout: \nerr: query"),
     ];
-    for ([rules, catalogue, query], failing, wanted) in rows {
-        let told = run_words(alloc, &["plan", rules, catalogue, query], failing)?;
-        assert_eq!(rt;
-            told.as_str(),
-            wanted,
-            "{rules} {catalogue} {query}, failing {failing:?}"
-        );
+    for (line, front) in rows {
+        let told = run_tiny(alloc, line, NO_FAULTS)?;
+        let wanted = format!(in alloc; "{front}: {unbuilt}\n")?;
+        assert_eq!(rt; told.as_str(), wanted.as_str(), "{line}");
     }
     Ok(())
 }
 
-// What a run over these rules and the smallest catalogue and query comes to, on sinks that may fail.
-fn run_sinks<'a>(
-    alloc: Global,
-    rules: &'a str,
-    room: usize,
-    failing_lines: &'a [(u32, usize)],
-) -> Result<String, AllocError> {
-    let given = Given {
-        words: &["plan", "r", "c", "q"],
-        files: &[
-            ("r", rules.as_bytes()),
-            ("c", TABLE.as_bytes()),
-            ("q", SELECTION.as_bytes()),
-        ],
-        failing: &[],
-        room,
-        failing_lines,
-    };
-    run(alloc, &given)
-}
-
-// The first sink takes what it has room for.
+// The first sink takes what it has room for; the second sink takes the line, or fails and keeps some of it.
 #[test]
 fn fails_at_each_byte(rt: HostRuntime) -> Result<(), Fail> {
     let alloc = rt.alloc();
     let text = format!(in alloc; "# cost 0 rescan 0 card 0\n{DERIVATION}")?;
     for room in 0..text.len() {
         let taken = text.as_str().get(..room).ok_or("no such room")?;
-        let told = run_sinks(alloc, TINY, room, &[])?;
-        let wanted = format!(in alloc; "WriteFault, calls 3\nout: {taken}\nerr: cannot write\n")?;
-        assert_eq!(rt; told.as_str(), wanted.as_str(), "room {room}");
-        let told = run_sinks(alloc, TINY, room, &[(1, 0)])?;
-        let wanted = format!(in alloc; "WriteFault, calls 3\nout: {taken}\nerr: ")?;
-        assert_eq!(rt; told.as_str(), wanted.as_str(), "room {room}, no line");
+        for (kept, line) in [(None, "cannot write\n"), (Some(0), ""), (Some(6), "cannot")] {
+            let told = run_tiny(
+                alloc,
+                "plan r c q",
+                Faults {
+                    call: 0,
+                    room,
+                    kept,
+                },
+            )?;
+            let wanted = format!(in alloc; "WriteFault, calls 3\nout: {taken}\nerr: {line}")?;
+            assert_eq!(rt;
+                told.as_str(),
+                wanted.as_str(),
+                "room {room}, kept {kept:?}"
+            );
+        }
     }
-    let told = run_sinks(alloc, TINY, text.len(), &[(1, 0)])?;
+    let room = text.len();
+    let told = run_tiny(alloc, "plan r c q", Faults { room, ..NO_FAULTS })?;
     let wanted = format!(in alloc; "Done, calls 3\nout: {text}\nerr: ")?;
     assert_eq!(rt; told.as_str(), wanted.as_str());
     Ok(())
@@ -166,16 +125,18 @@ fn fails_at_each_byte(rt: HostRuntime) -> Result<(), Fail> {
 #[test]
 fn fails_at_lines(rt: HostRuntime) -> Result<(), Fail> {
     let alloc = rt.alloc();
-    let rows: [(&[(u32, usize)], &str); 4] = [
-        (&[], "rules: no token at byte 0\n"),
-        (&[(2, 0)], "rules: no token at byte 0\n"),
-        (&[(1, 0)], ""),
-        (&[(1, 7)], "rules: "),
+    let rows = [
+        ("r c q", "Usage, calls 0\nout: \nerr: usage"),
+        ("plan q c r", "RulesRefused, calls 1\nout: \nerr: rules"),
+        ("plan r c none", "ReadFault, calls 3\nout: \nerr: canno"),
     ];
-    for (failing_lines, line) in rows {
-        let told = run_sinks(alloc, "?", AMPLE, failing_lines)?;
-        let wanted = format!(in alloc; "RulesRefused, calls 1\nout: \nerr: {line}")?;
-        assert_eq!(rt; told.as_str(), wanted.as_str(), "{failing_lines:?}");
+    for (line, wanted) in rows {
+        let faults = Faults {
+            kept: Some(5),
+            ..NO_FAULTS
+        };
+        let told = run_tiny(alloc, line, faults)?;
+        assert_eq!(rt; told.as_str(), wanted, "{line}");
     }
     Ok(())
 }

@@ -1,5 +1,5 @@
 // Rule files, catalogues and queries that are refused, each by its first fault.
-use crate::runs::{plan, plan_bytes};
+use crate::runs::{NO_FAULTS, plan, run};
 use crate::texts::{
     DERIVATION, NAME_64, NAME_65, SELECTION, STANDARD, TABLE, TINY, lengthened, nested,
 };
@@ -228,7 +228,9 @@ fn counts_bytes_of_file_names(rt: HostRuntime) -> Result<(), Fail> {
 fn refuses_file_names_in_other_bytes(rt: HostRuntime) -> Result<(), Fail> {
     let catalogue =
         b"site s cpu 1 net 1; table t at s rows 2 pages 3 file '\xff' (a int width 1 distinct 1);";
-    let told = plan_bytes(rt.alloc(), TINY.as_bytes(), catalogue, SELECTION.as_bytes())?;
+    let rules = TINY.as_bytes();
+    let query = SELECTION.as_bytes();
+    let told = run(rt.alloc(), "plan r c q", rules, catalogue, query, NO_FAULTS)?;
     let wanted = "CatalogueRefused, calls 2\nout: \nerr: catalogue: statement 2 is not built yet\n";
     assert_eq!(rt; told.as_str(), wanted);
     Ok(())
