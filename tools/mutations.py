@@ -348,9 +348,6 @@ CHANGES = {
     "plans::unsorted_input": [
         ("Judging", "a Glue isn't held to its requirement", "(option_and_then (only_if (λ w. satisfies w g.0)) (chain_vector q (costs_of rules) g.0 chain v))", "(chain_vector q (costs_of rules) g.0 chain v)"),
     ],
-    "plans::unsorted": [
-        ("Judging", "the root isn't held to the query", "(option_and_then (only_if (λ w. satisfies w (root_requirement q))) (chain_vector q (costs_of rules) (root_requirement q) chain v))", "(chain_vector q (costs_of rules) (root_requirement q) chain v)"),
-    ],
     "plans::predicate_missing": [
         ("Judging", "a goal isn't held to its target", "vector_or n (only_if (is_target q g.tables g.pushed) v)", "Vector v"),
     ],
@@ -406,6 +403,8 @@ ALONE = {
         ("Accepted", "SORT isn't used by Glue", "(flavour.Sort ∷ flavour.Store ∷ flavour.Ship ∷ [])", "(flavour.Store ∷ flavour.Ship ∷ [])"),
     ],
     "plans::": [
+        ("Expected", "the sets of a hash join exchanged", "operator_of flavour.JoinHash vs = op.JoinHash (as_preds (at_index vs 0)) (as_preds (at_index vs 1))", "operator_of flavour.JoinHash vs = op.JoinHash (as_preds (at_index vs 1)) (as_preds (at_index vs 0))"),
+        ("Expected", "the root requires nothing", "root_requirement q = record { order = q.order; site = q.site;", "root_requirement q = record { order = []; site = None;"),
         ("Plans", "the chain from the other end", "option_and_then (chain_vector q costs r os) (step q costs (op_of r o) (v ∷ []))", "option_and_then (λ w. step q costs (op_of r o) (w ∷ [])) (chain_vector q costs r os v)"),
         ("Expected", "a goal keeps all predicates", "ForGoal s (meet preds (crossing q s))", "ForGoal s preds"),
         ("Expected", "the parts of a split exchanged", "(plain p.0 ∷ plain p.1 ∷ is.Preds j ∷ [])", "(plain p.1 ∷ plain p.0 ∷ is.Preds j ∷ [])"),

@@ -36,14 +36,14 @@ a_flavour flavour.JoinHash = given_word (codes "JOIN_HASH") refl
 
 -- ---- sets
 
-kept_below : (test : ℕ → Bool) (bound k n : ℕ) → k + n ≤ bound → Every (λ m. m < bound) (filter test (range_with_len k n))
+pub kept_below : (test : ℕ → Bool) (bound k n : ℕ) → k + n ≤ bound → Every (λ m. m < bound) (filter test (range_with_len k n))
 kept_below test bound k zero low = tt
 kept_below test bound k (suc n) low = at (test k) (kept_below test bound (k + 1) n (omega arith)) where
   at : (b : Bool) → Every (λ m. m < bound) (filter test (range_with_len (k + 1) n)) → Every (λ m. m < bound) (cond b (k ∷ filter test (range_with_len (k + 1) n)) (filter test (range_with_len (k + 1) n)))
   at true later = (omega arith, later)
   at false later = later
 
-members_below : (s : ℕ) → Every (λ m. m < 32) (members s)
+pub members_below : (s : ℕ) → Every (λ m. m < 32) (members s)
 unfolding members places
 members_below s = kept_below (has s) 32 0 32 (omega arith)
 

@@ -11,7 +11,8 @@ pub use Rattle.spelling.proofs.DerivationWriting.{written_derivation, derivation
 pub use Rattle.spelling.proofs.Commented.{layout_behind_comment, commented_derivation}
 pub use Rattle.spelling.proofs.QueryLaws.{one_query_statement, one_query}
 pub use Rattle.spelling.proofs.FormulaLaws.{one_formula, canonical_formula}
-pub use Rattle.spelling.proofs.SmallestTexts.{canonical_formula_def, tiny_is_spelled, one_table, one_column}
+pub use Rattle.spelling.proofs.SmallestTexts.{canonical_formula_def, tiny_is_spelled, tiny_keeps_counts, one_table, one_column}
 pub use Rattle.spelling.proofs.RuleLaws.{one_star, one_formula_def, one_rule_file}
 pub use Rattle.spelling.proofs.ReadingLaws.{same_are, the_word_reads, the_symbol_reads, a_word_reads, a_number_reads, a_text_reads, then_reads}
 pub use Rattle.spelling.proofs.RuleWriting.{written_rules_spell, canonical_rules}
+pub use Rattle.spelling.proofs.RootWriting.{root_can_be_written, plan_text_spells}

@@ -25,8 +25,11 @@ mod FormulaFitting
 mod CatalogueCanonical
 mod DerivationWriting
 mod Commented
+mod RuleBodies
+mod RootWriting
 mod RuleWriting
 pub mod Laws
 mod ReadingLaws
 mod Signs
 mod WritingLaws
+mod Doubling

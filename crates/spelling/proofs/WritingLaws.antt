@@ -91,13 +91,13 @@ behind-semicolon e (x ∷ xs) =
 pub ended-line : (text : List ℕ) (statement : List Lexeme) → ended (puts (whole text) statement) ≡ whole (text ++ line statement)
 unfolding ended
 ended-line text statement = ap whole (
-  ap (λ bytes. bytes ++ 59 ∷ 10 ∷ []) (text-puts (whole text) statement)
-  ∙ append_assoc text (behind ending.Open statement) (59 ∷ 10 ∷ [])
-  ∙ ap (λ bytes. text ++ bytes) (
-      sym (append_assoc (behind ending.Open statement) (59 ∷ []) (10 ∷ []))
-      ∙ ap (λ bytes. bytes ++ 10 ∷ []) (sym (behind-semicolon ending.Open statement) ∙ open-spaced (statement ++ semicolon ∷ []))
+    ap (λ bytes. bytes ++ 59 ∷ 10 ∷ []) (text-puts (whole text) statement)
+    ∙ append_assoc text (behind ending.Open statement) (59 ∷ 10 ∷ [])
+    ∙ ap (λ bytes. text ++ bytes) (
+    sym (append_assoc (behind ending.Open statement) (59 ∷ []) (10 ∷ []))
+    ∙ ap (λ bytes. bytes ++ 10 ∷ []) (sym (behind-semicolon ending.Open statement) ∙ open-spaced (statement ++ semicolon ∷ []))
     )
-)
+    )
 
 pub lines-layout : (text : List ℕ) (statements : List (List Lexeme)) → lines (whole text) statements ≡ whole (text ++ layout statements)
 unfolding lines layout

@@ -1,5 +1,5 @@
 -- Which text spells a rule file.
-use Rattle.std.specs.Prelude.{◌≡◌, ℕ, ◌+◌, List, [], ◌∷◌, ◌++◌, length, map, Option, Some, None, codes, nat_lt, if◌then◌else◌}
+use Rattle.std.specs.Prelude.{◌≡◌, ℕ, ◌+◌, ◌≤◌, List, [], ◌∷◌, ◌++◌, length, map, Option, Some, None, codes, nat_lt, if◌then◌else◌}
 use Rattle.std.specs.List.{flat_map}
 use Rattle.star_model.specs.Kinds.{argument_kinds}
 use Rattle.star_model.specs.PlanExprCases as expr
@@ -158,3 +158,15 @@ rule_lexemes rules = map definition_lexemes (definitions rules.formulas rules.st
 
 abbrev pub canonical : RuleFile → List ℕ
 canonical rules = layout (rule_lexemes rules)
+
+-- ---- rule files whose derivations can be written: each alternative has a number that can be, and few for-all clauses
+
+abbrev pub HasFewRanges : Alternative → Type 0
+HasFewRanges a = length a.ranges ≤ 2
+
+pub record HasFewParts (s : StarDef) : Type 0 where
+  pub alternatives : length s.alternatives ≤ 65535
+  pub ranges : Every HasFewRanges s.alternatives
+
+abbrev pub KeepsCounts : RuleFile → Type 0
+KeepsCounts rules = Every HasFewParts rules.stars

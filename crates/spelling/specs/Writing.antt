@@ -3,7 +3,7 @@ use Rattle.std.specs.Prelude.{ℕ, Bool, true, false, ◌||◌, if◌then◌else
 use Rattle.spelling.specs.declared.ending.Ending.{Ending}
 use Rattle.spelling.specs.declared.ending.Ending.TheVariants as ending
 use Rattle.spelling.specs.Lexemes.{Lexeme, Word, Number, Text, Symbol}
-use Rattle.spelling.specs.Layout.{written, is_one_of, hangs}
+use Rattle.spelling.specs.Layout.{written, is_one_of}
 
 abbrev pub ending_of_symbol : List ℕ → Ending
 ending_of_symbol bytes = if is_one_of (codes "([{.") bytes then ending.Open else ending.Closed

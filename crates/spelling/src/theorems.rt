@@ -17,10 +17,12 @@ ghost use Rattle.spelling.specs.Rules as rule_file;
 ghost use Rattle.spelling.specs.Catalogues.{CatalogueStatement, catalogue_of, catalogue_statements, Site, Table, TablePart, table_from, catalogue_lexemes, SpellsCatalogueStatement, SpellsCatalogue};
 ghost use Rattle.spelling.specs.Queries.{QueryStatement, only_column, query_lexemes, IsFree, SpellsQueryStatement, SpellsQuery};
 ghost use Rattle.spelling.specs.Formulas.{SpellsFormula, formula_lexemes};
-ghost use Rattle.spelling.specs.Rules.{SpellsStar, SpellsFormulaDef, formula_def_lexemes, rule_lexemes, SpellsRules};
+ghost use Rattle.spelling.specs.Rules.{SpellsStar, SpellsFormulaDef, formula_def_lexemes, rule_lexemes, SpellsRules, KeepsCounts};
 ghost use Rattle.spelling.specs.Tiny.{tiny_lexemes, tiny_rules};
 ghost use Rattle.star_model.specs.Vectors.{same_numbers};
-ghost use Rattle.star_model.specs.WellFormed.{WellFormedCatalogue};
+ghost use Rattle.star_model.specs.WellFormed.{WellFormedCatalogue, WellFormedQuery};
+ghost use Rattle.star_model.specs.Derivations.{IsRoot};
+ghost use Rattle.star_model.specs.declared.plans.Props.{Props};
 ghost use Rattle.star_model.specs.declared.catalogue.Catalogue.{Catalogue};
 ghost use Rattle.star_model.specs.declared.catalogue.SiteDef.{SiteDef};
 ghost use Rattle.star_model.specs.declared.catalogue.TableDef.{TableDef};
@@ -130,10 +132,19 @@ pub fn comments_make_no_difference()
     ensures derivation { (line : List ℕ) (tree : Deriv) → AllPass in_comment line → IsWritable tree → Every NamesWord (steps tree) → SpellsDerivation (commented line (derivation.canonical tree)) tree }
 {}
 
+/// A root derivation of a rule file that a text spells can be written, where no STAR has more alternatives than a derivation can
+/// name and no alternative more than two for-all clauses. So its canonical text spells it, behind a comment too.
+pub fn root_derivations_are_written()
+    ensures writable { (q : Query) (rules : RuleFile) → WellFormedQuery q → (text : List ℕ) → SpellsRules text rules → KeepsCounts rules → (tree : Deriv) (v : Props) → IsRoot q rules tree v → IsWritable tree × Every NamesWord (steps tree) }
+    ensures spelled { (q : Query) (rules : RuleFile) → WellFormedQuery q → (text : List ℕ) → SpellsRules text rules → KeepsCounts rules → (tree : Deriv) (v : Props) → IsRoot q rules tree v
+        → (line : List ℕ) → AllPass in_comment line → SpellsDerivation (commented line (derivation.canonical tree)) tree }
+{}
+
 /// What the smallest texts spell: the smallest rule file that is accepted, one site with one table at it, and a query for the
 /// only column of the only table.
 pub fn smallest_texts_spell()
     ensures rules { (text : List ℕ) → IsStatements text tiny_lexemes → SpellsRules text tiny_rules }
+    ensures counts { KeepsCounts tiny_rules }
     ensures catalogue { (text : List ℕ) (s : SiteDef) (t : TablePart) → t.site ≡ s.name → HasItem t.columns → IsStatements text (catalogue_lexemes (Site s) ∷ catalogue_lexemes (Table t) ∷ [])
         → SpellsCatalogue text (record { sites = s ∷ []; tables = table_from 0 t ∷ []; indexes = [] }) }
     ensures query { (catalogue : Catalogue) (text : List ℕ) (t : TableDef) (c : ColumnDef) → catalogue.tables ≡ t ∷ [] → t.columns ≡ c ∷ [] → IsFree t.name

@@ -1,7 +1,8 @@
 // Writing the lexemes of statements in canonical layout.
 
 ghost use Rattle.std.specs.Prelude.{◌≡◌, ◌++◌, ◌∷◌, [], if◌then◌else◌, OnOk};
-ghost use Rattle.spelling.specs.Lexemes.{Word, Number, Symbol};
+ghost use Rattle.spelling.specs.Lexemes.{Word, Number, Text, Symbol};
+ghost use Rattle.sb_text.specs.Forms.{doubled};
 ghost use Rattle.spelling.specs.Writing.{whole, put, ended};
 
 use crate::Ending;
@@ -9,8 +10,32 @@ use itoa::Buffer;
 use std::alloc::{AllocError, Global};
 use std::marker::Model;
 
-/// A text that is written lexeme by lexeme. The writer puts the spaces and the ends of lines; where a method ends in an error,
-/// what was written is of no use.
+// The byte, twice if it is a quote.
+fn push_byte(out: &mut Vec<u8>, byte: u8) -> Result<(), AllocError>
+    ensures { OnOk result (out.new.items ≡ out.old.items ++ doubled (byte ∷ [])) }
+{
+    if byte == b'\'' {
+        out.push(b'\'')?;
+    }
+    out.push(byte)?;
+    Ok(())
+}
+
+// The bytes, with each quote doubled.
+#[tactic(auto, using(crate::proofs::Doubling::doubling))]
+fn push_doubled(out: &mut Vec<u8>, bytes: &[u8]) -> Result<(), AllocError>
+    ensures { OnOk result (out.new.items ≡ out.old.items ++ doubled bytes.now) }
+{
+    for byte in bytes {
+        push_byte(out, *byte)?;
+    }
+    Ok(())
+}
+
+/// A text that is written lexeme by lexeme, in canonical layout: the writer puts the spaces and the ends of lines. Whether bytes
+/// have the form of a word or a symbol is the caller's to know.
+///
+/// Where a method answers an error, memory was wanting, and the text is of no use.
 #[derive(Drop)]
 pub struct Writer {
     text: Vec<u8>,
@@ -64,6 +89,18 @@ impl Writer {
         let hangs = self.ending.is_open();
         let mut digits = Buffer::new();
         self.put(hangs, digits.format(number).as_bytes(), Ending::Closed)
+    }
+
+    /// Writes these bytes between quotes, with each quote among them doubled.
+    #[tactic(auto, unfolding(crate::specs::Writing::put))]
+    pub fn text(&mut self, text: &[u8]) -> Result<(), AllocError>
+        ensures { OnOk result (self.new ≡ put self.old (Text text.now)) }
+    {
+        let hangs = self.ending.is_open();
+        self.put(hangs, b"'", Ending::Closed)?;
+        push_doubled(&mut self.text, text)?;
+        self.text.push(b'\'')?;
+        Ok(())
     }
 
     /// Writes a symbol.

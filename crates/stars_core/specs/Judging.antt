@@ -1,7 +1,7 @@
 -- What the judgement of one text answers.
-use Rattle.std.specs.Prelude.{◌≡◌, ◌≤◌, ℕ, List, [], ◌∷◌, length, Result, Ok, Err, Vec, string_bytes}
+use Rattle.std.specs.Prelude.{◌≡◌, ◌≤◌, ℕ, List, [], ◌∷◌, length, None, Result, Ok, Err, Vec, string_bytes}
 use Rattle.std.specs.declared.alloc.Global.{Global}
-use Rattle.sb_text.specs.Refusal.{AreTokens}
+use Rattle.sb_text.specs.Refusal.{AreTokens, fault_of}
 use Rattle.sb_text.specs.declared.token.Token.{Token}
 use Rattle.stars_core.specs.declared.refusal.TextKind.{TextKind}
 use Rattle.stars_core.specs.declared.refusal.Refusal.{Refusal}
@@ -12,6 +12,7 @@ use Rattle.star_model.specs.declared.query.Query.{Query as QueryTree}
 use Rattle.spelling.specs.Lexemes.{statements_in}
 use Rattle.spelling.specs.Catalogues.{TablePart}
 use Rattle.stars_core.specs.declared.refusal.TextKind.TheVariants.{Rules, Catalogue, Query}
+use Rattle.stars_core.specs.TinyText.{tiny_statements}
 use Rattle.stars_core.specs.Small.{small_catalogue, IsSelection}
 use Rattle.stars_core.specs.Built.{Given, HasTable, SelectsFrom, IsUnbuiltAt}
 use Rattle.stars_core.specs.Faults.{Kind, TooLong, Lexical, TooDeep, HasFault, First, Stops}
@@ -53,3 +54,41 @@ UnbuiltCatalogue c n = (earlier : List Given) → IsUnbuiltAt earlier (Catalogue
 
 abbrev pub UnbuiltQuery : CatalogueTree → List ℕ → ℕ → Type 0
 UnbuiltQuery catalogue q n = (c : List ℕ) → CatalogueRead c catalogue → IsUnbuiltAt ((Catalogue, c) ∷ []) (Query, q) n
+
+-- the text is within the limit, all its bytes are tokens, and no statement is too deep
+pub record HasTokens (bytes : List ℕ) : Type 0 where
+  pub size : length bytes ≤ 1048576
+  pub accepted : fault_of bytes ≡ None
+
+pub record RulesPass (r : List ℕ) : Type 0 where
+  pub tokens : HasTokens r
+  pub built : statements_in r ≡ tiny_statements
+
+pub record CataloguePasses (c : List ℕ) (catalogue : CatalogueTree) : Type 0 where
+  pub tokens : HasTokens c
+  pub read : CatalogueRead c catalogue
+
+pub record QueryPasses (catalogue : CatalogueTree) (q : List ℕ) (query : QueryTree) : Type 0 where
+  pub tokens : HasTokens q
+  pub read : QueryRead catalogue q query
+
+-- the text is stopped with this line, whatever stands before it
+abbrev pub StopsAlways : TextKind → List ℕ → List ℕ → Type 0
+StopsAlways kind bytes line = (earlier : List Given) → Stops earlier (kind, bytes) line
+
+-- the query is stopped with this line, behind any text that is read as this catalogue
+abbrev pub StopsOver : CatalogueTree → List ℕ → List ℕ → Type 0
+StopsOver catalogue q line = (c : List ℕ) → CatalogueRead c catalogue → Stops ((Catalogue, c) ∷ []) (Query, q) line
+
+-- what the judgement of each text answers
+abbrev pub JudgedRules : {A : Type 0} → List ℕ → Result A Refusal → Type 0
+JudgedRules r (Ok done) = RulesPass r
+JudgedRules r (Err refusal) = Refuses Rules (StopsAlways Rules r) refusal
+
+abbrev pub JudgedCatalogue : List ℕ → Result CatalogueTree Refusal → Type 0
+JudgedCatalogue c (Ok catalogue) = CataloguePasses c catalogue
+JudgedCatalogue c (Err refusal) = Refuses Catalogue (StopsAlways Catalogue c) refusal
+
+abbrev pub JudgedQuery : CatalogueTree → List ℕ → Result QueryTree Refusal → Type 0
+JudgedQuery catalogue q (Ok query) = QueryPasses catalogue q query
+JudgedQuery catalogue q (Err refusal) = Refuses Query (StopsOver catalogue q) refusal

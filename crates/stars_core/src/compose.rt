@@ -6,7 +6,7 @@ ghost use Rattle.stars_core.specs.Shelves.{Composed, PlanRan};
 
 use crate::command::{find_command, word_at};
 use crate::read::fetch;
-use crate::{Answer, Command, Refusal, TextKind, judge};
+use crate::{Answer, Command, Refusal, TextKind, judge_catalogue, judge_query, judge_rules, plan_query};
 use sb_outside::Shelf;
 use std::alloc::Global;
 
@@ -21,7 +21,13 @@ fn plan<S: Shelf>(
     ensures ran { PlanRan (S.state shelf.old) (S.state shelf.new) (three_requests rules.now catalogue.now query.now) result }
 {
     let r = fetch(alloc, shelf, TextKind::Rules, rules)?;
-    Err(judge(alloc, TextKind::Rules, r.as_slice()))
+    judge_rules(alloc, r.as_slice())?;
+    let c = fetch(alloc, shelf, TextKind::Catalogue, catalogue)?;
+    let catalogue = judge_catalogue(alloc, c.as_slice())?;
+    let q = fetch(alloc, shelf, TextKind::Query, query)?;
+    let query = judge_query(alloc, catalogue, q.as_slice())?;
+    let answer = plan_query(alloc, &query)?;
+    Ok(answer)
 }
 
 /// What the words ask to be put out, or why nothing is.

@@ -7,6 +7,7 @@ mod command;
 mod compose;
 mod judging;
 mod laws;
+mod plan;
 mod read;
 mod refusal;
 mod small;
@@ -16,8 +17,9 @@ mod top;
 
 pub use answer::Answer;
 pub use command::{Command, find_command};
-pub use judging::judge;
+pub use judging::{judge_catalogue, judge_query, judge_rules};
 pub use laws::one_verdict;
+pub use plan::plan_query;
 pub use refusal::{Refusal, TextKind};
 pub use status::{Found, Status};
 pub use top::stars;

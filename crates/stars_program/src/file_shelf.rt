@@ -1,5 +1,5 @@
 // The files of the system as a shelf, which tells no content.
-ghost use Rattle.std.specs.Prelude.{None};
+ghost use Rattle.std.specs.Prelude.{◌≡◌, None};
 
 use sb_outside::{FailedCall, Shelf, ShelfFault};
 use std::alloc::Global;
@@ -18,8 +18,11 @@ pub struct FileShelf<'a, R: Files> {
 }
 
 impl<'a, R: Files> FileShelf<'a, R> {
-    /// A shelf of these files, with all counts at 0.
-    pub fn new(files: &'a R) -> Self {
+    /// A shelf of these files, of which none was asked for yet.
+    pub fn new(files: &'a R) -> Self
+        ensures counts { (result.faults ≡ 0) × (result.calls ≡ 0) × (result.taken ≡ 0) }
+        ensures last { result.last ≡ None }
+    {
         FileShelf {
             files,
             faults: 0,

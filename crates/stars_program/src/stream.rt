@@ -1,5 +1,5 @@
 // A stream of the system as a sink, which tells no content.
-ghost use Rattle.std.specs.Prelude.{None};
+ghost use Rattle.std.specs.Prelude.{◌≡◌, None};
 
 use sb_outside::{Sink, SinkFault};
 use std::io::Write;
@@ -13,8 +13,10 @@ pub struct Stream<W: Write> {
 }
 
 impl<W: Write> Stream<W> {
-    /// A sink over this stream, with all counts at 0.
-    pub fn new(inner: W) -> Self {
+    /// A sink over this stream, to which nothing was put yet.
+    pub fn new(inner: W) -> Self
+        ensures { (result.faults ≡ 0) × (result.puts ≡ 0) }
+    {
         Stream {
             inner,
             faults: 0,

@@ -169,6 +169,9 @@ split_with_empty_part = (d.Glue [] (d.Goal (record { tables = 3; pushed = 0 }) (
 abbrev pub split_with_overlap : Deriv
 split_with_overlap = (d.Glue [] (d.Goal (record { tables = 3; pushed = 0 }) (Some (3, 2)) (d.Reference (codes "JoinRoot") 1 [] (d.Binary flavour.JoinNl (d.Glue [] (d.Goal (record { tables = 3; pushed = 0 }) None (d.Reference (codes "AccessRoot") 1 [] (derivation.Leaf flavour.AccessHeap)))) (d.Glue [] (d.Goal (record { tables = 2; pushed = 0 }) None (d.Reference (codes "AccessRoot") 1 [] (derivation.Leaf flavour.AccessHeap))))))))
 
+abbrev pub stored_table : Deriv
+stored_table = (d.Glue [] (d.Goal (record { tables = 1; pushed = 0 }) None (d.Reference (codes "AccessRoot") 1 [] (d.Unary flavour.Store (derivation.Leaf flavour.AccessHeap)))))
+
 abbrev pub stored_without_need : Deriv
 stored_without_need = (d.Glue (glue.Store ∷ []) (d.Goal (record { tables = 1; pushed = 0 }) None (d.Reference (codes "AccessRoot") 1 [] (derivation.Leaf flavour.AccessHeap))))
 
@@ -180,6 +183,9 @@ unsorted = (d.Glue [] (d.Goal (record { tables = 1; pushed = 0 }) None (d.Refere
 
 abbrev pub unsorted_input : Deriv
 unsorted_input = (d.Glue (glue.Sort ∷ []) (d.Goal (record { tables = 3; pushed = 0 }) (Some (1, 2)) (d.Reference (codes "JoinRoot") 1 [] (d.Reference (codes "Keyed") 1 [] (d.Binary flavour.JoinMerge (d.Glue (glue.Sort ∷ []) (d.Goal (record { tables = 1; pushed = 0 }) None (d.Reference (codes "AccessRoot") 1 [] (derivation.Leaf flavour.AccessHeap)))) (d.Glue [] (d.Goal (record { tables = 2; pushed = 0 }) None (d.Reference (codes "AccessRoot") 1 [] (derivation.Leaf flavour.AccessHeap)))))))))
+
+abbrev pub unstored_table : Deriv
+unstored_table = (d.Glue [] (d.Goal (record { tables = 1; pushed = 0 }) None (d.Reference (codes "AccessRoot") 2 [] (derivation.Leaf flavour.AccessHeap))))
 
 abbrev pub goal_of_pairs : Deriv
 goal_of_pairs = (d.Goal (record { tables = 3; pushed = 0 }) (Some (1, 2)) (d.Reference (codes "JoinRoot") 1 [] (d.Binary flavour.JoinNl (d.Glue [] (d.Goal (record { tables = 1; pushed = 0 }) None (d.Reference (codes "AccessRoot") 1 [] (derivation.Leaf flavour.AccessHeap)))) (d.Glue [] (d.Goal (record { tables = 2; pushed = 0 }) None (d.Reference (codes "AccessRoot") 1 [] (derivation.Leaf flavour.AccessHeap)))))))

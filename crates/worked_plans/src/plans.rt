@@ -275,6 +275,11 @@ pub fn split_with_overlap()
     ensures { IsInvalidAt 2 query.cities rules.heaps tree.split_with_overlap }
 {}
 
+/// The table is stored once it is read. Under `stored_tiny.rules`, for `t_filled.query`.
+pub fn stored_table()
+    ensures { HasNumbers query.t_filled rules.stored_tiny tree.stored_table 3500 1000 1000 }
+{}
+
 /// The chain has an operator that nothing asks for. Under `standard.rules`, for `all_employees.query`.
 pub fn stored_without_need()
     ensures { IsInvalidAt 1 query.all_employees rules.standard tree.stored_without_need }
@@ -293,6 +298,11 @@ pub fn unsorted()
 /// An input isn't sorted as the merge join requires. Under `merge.rules`, for `same_words.query`.
 pub fn unsorted_input()
     ensures { IsInvalidAt 10 query.same_words rules.merge tree.unsorted_input }
+{}
+
+/// The table is read, and not stored. Under `stored_tiny.rules`, for `t_filled.query`.
+pub fn unstored_table()
+    ensures { HasNumbers query.t_filled rules.stored_tiny tree.unstored_table 1500 1500 1000 }
 {}
 
 /// The goal below the sort. Under `heaps.rules`, for `pairs.query`.

@@ -42,6 +42,11 @@ pub fn accepted_stored_heaps()
     ensures { HasNoFault rules.stored_heaps }
 {}
 
+/// `stored_tiny.rules` has no fault that a test finds.
+pub fn accepted_stored_tiny()
+    ensures { HasNoFault rules.stored_tiny }
+{}
+
 /// `tie.rules` has no fault that a test finds.
 pub fn accepted_tie()
     ensures { HasNoFault rules.tie }

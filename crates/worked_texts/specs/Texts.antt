@@ -48,10 +48,19 @@ abbrev pub derivation_smallest : List ℕ
 derivation_smallest = codes "# The one derivation of an empty table.\n# tiny.rules t.query\n# cost 0 rescan 0 card 0\nglue;\ngoal {1} pushed {};\nref AccessRoot 1;\nACCESS_HEAP;\n"
 
 abbrev pub rules_of_all_forms : List ℕ
-rules_of_all_forms = codes "# Each form of the rule language, and none that is accepted.\nstar AllForms(A stream, Q quants, P preds, C cols, S site, x index) =\n    for q in members(all) for p in each(indexable(A, x, equalities(crossing(tables(A)))))\n      when and(single(q), or(within(q, Q), begins(C, columns(A, x))))\n      give JOIN_MERGE(SHIP(PROBE(FILTER(GET(ACCESS_INDEX(A, x, P), A, none), p), keys(P, Q), union(P, meet(P, inside(Q)))), home(A)),\n        SORT(STORE(Glue(A[order orderby][site querysite][temp][path nocols], P), C), orderby), P, minus(P, between(Q, Q)))\n  | for t in indexes(A) for s in sites give AllForms(A[site s], Q, P, C, S, t)\n  | when not(same(Q, all)) give JOIN_HASH(Glue(tables(J)[temp], P), JOIN_NL(Other(A), ACCESS_HEAP(A, P), P), P, empty_one)\n  | when empty(tables(A)) give Glue(A, Q);\ncost JOIN_NL = if card1 * 2 <= cost1 - (card2 - 1) then min(cost1, cost2) else if card = 007 then max(one, net) * (cpu + width) else preds / (rows / width1);\nrescan JOIN_NL = rescan1 + rescan2 * width2 - pages;\n"
+rules_of_all_forms = codes "# Each form of the rule language, and none that is accepted.\nstar AllForms(A stream, Q quants, P preds, C cols, S site, x index) =\n    for q in members(all) for p in each(indexable(A, x, equalities(crossing(tables(A)))))\n      when and(single(q), or(within(q, Q), begins(C, columns(A, x))))\n      give JOIN_MERGE(SHIP(PROBE(FILTER(GET(ACCESS_INDEX(A, x, P), A, none), p), keys(P, Q), union(P, meet(P, inside(Q)))), home(A)),\n        SORT(STORE(Glue(A[order orderby][site querysite][temp][path nocols], P), C), orderby), P, minus(P, between(Q, Q)))\n  | for t in indexes(A) for s in sites give AllForms(A[site s], Q, P, C, S, t)\n  | when not(same(Q, all)) give JOIN_HASH(Glue(tables(J)[temp], P), JOIN_NL(Other(A), ACCESS_HEAP(A, P), P), P, empty_one)\n  | when empty(tables(A)) give Glue(A, Q);\ncost JOIN_NL = if card1 * 2 <= cost1 - (card2 - 1) then min(cost1, cost2) else if card = 007 then max(one, net) * (cpu + width) else preds / (rows / width1);\nrescan JOIN_NL = rescan1 + rescan2 * width2 - pages;\ncost SORT = if (card1 + 1) * 2 = 3 then (if 1 < 2 then 1 else 2) + 1 else (7 - 1) / (2 * 3) - (1 - 1);\n"
 
 abbrev pub query_of_all_forms : List ℕ
 query_of_all_forms = codes "# over employees.catalogue\nselect e.id, emp.dno from emp, emp e\n  where e.id <> 3 and e.id < emp.id and emp.name = 'O''Hara' and emp.id <= 007 and e.dno > - 5 and e.dno>=0\n  order by e.id, e.dno at hq;\n"
 
 abbrev pub derivation_of_all_forms : List ℕ
 derivation_of_all_forms = codes "# cost 1 rescan 1 card 1\nglue ship sort store;\ngoal {1, 3, 32} pushed {2,4} split {1}{3,32};\nref  JoinRoot 1 2 65535;\nJOIN_NL; glue; goal {} pushed {}; GET; ACCESS_INDEX;\nSORT;\nACCESS_HEAP; # the end\n"
+
+abbrev pub laid_out_rules : List ℕ
+laid_out_rules = codes "star AllForms(A stream, Q quants, P preds, C cols, S site, x index) = for q in members(all) for p in each(indexable(A, x, equalities(crossing(tables(A))))) when and(single(q), or(within(q, Q), begins(C, columns(A, x)))) give JOIN_MERGE(SHIP(PROBE(FILTER(GET(ACCESS_INDEX(A, x, P), A, none), p), keys(P, Q), union(P, meet(P, inside(Q)))), home(A)), SORT(STORE(Glue(A[order orderby] [site querysite] [temp] [path nocols], P), C), orderby), P, minus(P, between(Q, Q))) | for t in indexes(A) for s in sites give AllForms(A[site s], Q, P, C, S, t) | when not(same(Q, all)) give JOIN_HASH(Glue(tables(J) [temp], P), JOIN_NL(Other(A), ACCESS_HEAP(A, P), P), P, empty_one) | when empty(tables(A)) give Glue(A, Q);\ncost JOIN_NL = if card1 * 2 <= cost1 - (card2 - 1) then min(cost1, cost2) else if card = 7 then max(one, net) * (cpu + width) else preds / (rows / width1);\nrescan JOIN_NL = rescan1 + rescan2 * width2 - pages;\ncost SORT = if(card1 + 1) * 2 = 3 then(if 1 < 2 then 1 else 2) + 1 else(7 - 1) / (2 * 3) - (1 - 1);\n"
+
+abbrev pub laid_out_catalogue : List ℕ
+laid_out_catalogue = codes "site hq cpu 1 net 1;\ntable emp at hq rows 1000 pages 100 file 'emp.csv' (id int width 8 distinct 1000, dno int width 8 distinct 10, name text width 20 distinct 1000);\nindex emp_dno on emp(dno, id) pages 20;\n"
+
+abbrev pub laid_out_derivation : List ℕ
+laid_out_derivation = codes "glue ship sort store;\ngoal {1, 3, 32} pushed {2, 4} split {1} {3, 32};\nref JoinRoot 1 2 65535;\nJOIN_NL;\nglue;\ngoal {} pushed {};\nGET;\nACCESS_INDEX;\nSORT;\nACCESS_HEAP;\n"

@@ -4,6 +4,10 @@ ghost use Rattle.spelling.specs.Rules.{SpellsRules};
 ghost use Rattle.spelling.specs.Catalogues.{SpellsCatalogue};
 ghost use Rattle.spelling.specs.Queries.{SpellsQuery};
 ghost use Rattle.spelling.specs.Derivations.{SpellsDerivation};
+ghost use Rattle.spelling.specs.Rules as laid_rules;
+ghost use Rattle.spelling.specs.Catalogues as laid_catalogue;
+ghost use Rattle.spelling.specs.Derivations as laid_derivation;
+ghost use Rattle.std.specs.Prelude.{◌≡◌};
 ghost use Rattle.worked_plans.specs.RuleFiles as rule_file;
 ghost use Rattle.worked_plans.specs.Catalogues as catalogue;
 ghost use Rattle.worked_plans.specs.Queries as query;
@@ -99,4 +103,19 @@ pub fn query_of_all_forms()
 /// The text `tools/texts/all_forms.derivation`.
 pub fn derivation_of_all_forms()
     ensures { SpellsDerivation text.derivation_of_all_forms form.forms_of_derivation }
+{}
+
+/// The layout `tools/texts/laid_out.rules`.
+pub fn laid_out_rules()
+    ensures { laid_rules.canonical form.forms_of_rules ≡ text.laid_out_rules }
+{}
+
+/// The layout `tools/texts/laid_out.catalogue`.
+pub fn laid_out_catalogue()
+    ensures { laid_catalogue.canonical catalogue.employees ≡ text.laid_out_catalogue }
+{}
+
+/// The layout `tools/texts/laid_out.derivation`.
+pub fn laid_out_derivation()
+    ensures { laid_derivation.canonical form.forms_of_derivation ≡ text.laid_out_derivation }
 {}

@@ -12,5 +12,5 @@ returns-in_default-table c =
 pub returns : goal.returns
 returns c =
     let found = rw (c.in-Some-table.is, c.in-Some-table.field-0-is) at c.in_ok-table.ensures in
-    catalogue_read c.args.source.now c.args.statements.now c.requires (site_of c.in-Some.site) (table_of c.in-Some-table.words) c.in_ok-catalogue.catalogue (rw c.in-Some-table.words-is found.0)
-    (omega (arith, c.if-statements-gt2.false, length-map c.args.statements.now (said_of c.args.source.now))) c.in_ok-catalogue.ensures
+    catalogue_read c.args.source.now c.args.statements.now c.requires (site_of c.in-Some.site) (table_of c.in-Some-table.words) c.in_ok-catalogue.catalogue (rw (← c.in-Some-table.words-is) found.0)
+    (omega (arith, c.if-statements-gt2.false, length-map c.args.statements.now (said_of c.args.source.now))) (rw (← c.in-Some-table.words-is) c.in_ok-catalogue.ensures)

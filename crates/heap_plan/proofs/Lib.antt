@@ -1,0 +1,5 @@
+mod Root
+mod Only
+mod Accepted
+mod Formed
+mod Laws
