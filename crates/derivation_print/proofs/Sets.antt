@@ -1,7 +1,7 @@
 -- The members of a set, written one after the other: those that are left complete the set.
 use Rattle.std.proofs.Common.{◌≡◌, ℕ, zero, suc, ◌+◌, ◌-◌, ◌<◌, ◌≤◌, Bool, true, false, if◌then◌else◌, List, [], ◌∷◌, ◌++◌, map, filter, refl, sym, ap, ◌∙◌, arith}
 use Rattle.std.specs.List.{range_with_len}
-use Rattle.star_model.specs.Sets.{has, members, members_from, places}
+use Rattle.star_model.specs.Sets.{has, members, places}
 use Rattle.spelling.specs.Lexemes.{Lexeme, Number, left_brace, right_brace, comma, joined_by}
 use Rattle.spelling.specs.Derivations.{set_lexemes}
 use Rattle.spelling.specs.Writing.{Written, put, puts}
@@ -9,6 +9,10 @@ use Rattle.spelling.proofs.Laws.{puts-more, puts-none, puts-append}
 use Rattle.derivation_print.specs.Members.{member_lexemes}
 
 -- ---- the members from a number on
+
+-- the members from k on, in rising order
+unfoldable pub members_from : ℕ → ℕ → List ℕ
+members_from s k = filter (has s) (range_with_len k (32 - k))
 
 range_step : (k : ℕ) → k < 32 → range_with_len k (32 - k) ≡ k ∷ range_with_len (k + 1) (32 - (k + 1))
 range_step k below = let e : 32 - k ≡ suc (32 - (k + 1)) = omega arith in ap (range_with_len k) e

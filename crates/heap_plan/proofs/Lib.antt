@@ -2,4 +2,4 @@ mod Root
 mod Only
 mod Accepted
 mod Formed
-mod Laws
+pub mod Laws

@@ -14,7 +14,8 @@ use Rattle.spelling.specs.Names.{is_among}
 use Rattle.spelling.specs.Queries.{IsFree, reserved_in_queries}
 use Rattle.spelling.specs.Catalogues.{TablePart, table_from}
 use Rattle.stars_core.specs.ThinReading.{whole_at, selection_at}
-use Rattle.stars_core.specs.Small.{small_catalogue, IsSmallCatalogue, IsSelection}
+use Rattle.heap_plan.specs.Small.{small_catalogue}
+use Rattle.stars_core.specs.Small.{IsSmallCatalogue, IsSelection}
 use Rattle.stars_core.specs.Judging.{CatalogueRead, QueryRead, UnbuiltCatalogue, UnbuiltQuery}
 use Rattle.stars_core.specs.Built.{Given, DifferAt, IsBuilt, IsUnbuiltAt, NoSite, BeginsSite, HasTable, SelectsFrom}
 use Rattle.stars_core.specs.Cut.{IsCut, SelectsWhere, said_by}

@@ -7,3 +7,5 @@ pub mod TinyLaws
 pub mod Cutting
 pub mod BuiltLaws
 pub mod ThinLaws
+pub mod Says
+pub mod ThreeTexts

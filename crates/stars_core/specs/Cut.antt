@@ -8,7 +8,7 @@ use Rattle.star_model.specs.declared.catalogue.Catalogue.{Catalogue}
 use Rattle.star_model.specs.declared.catalogue.SiteDef.{SiteDef}
 use Rattle.star_model.specs.declared.catalogue.ColumnDef.{ColumnDef}
 use Rattle.spelling.specs.Catalogues.{TablePart}
-use Rattle.stars_core.specs.Small.{small_catalogue}
+use Rattle.heap_plan.specs.Small.{small_catalogue}
 use Rattle.stars_core.specs.Built.{Given, IsBuilt, IsUnbuiltAt, SelectsFrom}
 
 abbrev pub said_of : List ℕ → Statement → MaybeEnded

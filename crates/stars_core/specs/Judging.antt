@@ -13,7 +13,8 @@ use Rattle.spelling.specs.Lexemes.{statements_in}
 use Rattle.spelling.specs.Catalogues.{TablePart}
 use Rattle.stars_core.specs.declared.refusal.TextKind.TheVariants.{Rules, Catalogue, Query}
 use Rattle.stars_core.specs.TinyText.{tiny_statements}
-use Rattle.stars_core.specs.Small.{small_catalogue, IsSelection}
+use Rattle.heap_plan.specs.Small.{small_catalogue}
+use Rattle.stars_core.specs.Small.{IsSelection}
 use Rattle.stars_core.specs.Built.{Given, HasTable, SelectsFrom, IsUnbuiltAt}
 use Rattle.stars_core.specs.Faults.{Kind, TooLong, Lexical, TooDeep, HasFault, First, Stops}
 

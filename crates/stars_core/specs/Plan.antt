@@ -30,8 +30,11 @@ pub record Says (r c q : List ℕ) (rules : RuleFile) (query : QueryTree) : Type
   pub accepted : IsAccepted rules
   pub formed : WellFormedQuery query
 
+abbrev pub numbers_line_of : ℕ → ℕ → ℕ → List ℕ
+numbers_line_of cost rescan card = codes "# cost " ++ decimal cost ++ codes " rescan " ++ decimal rescan ++ codes " card " ++ decimal card ++ 10 ∷ []
+
 abbrev pub numbers_line : Props → List ℕ
-numbers_line v = codes "# cost " ++ decimal v.cost ++ codes " rescan " ++ decimal v.rescan ++ codes " card " ++ decimal v.card ++ 10 ∷ []
+numbers_line v = numbers_line_of v.cost v.rescan v.card
 
 abbrev pub no_plan : List ℕ
 no_plan = codes "no plan" ++ 10 ∷ []

@@ -9,7 +9,8 @@ ghost use Rattle.star_model.specs.declared.catalogue.SiteDef.{SiteDef};
 ghost use Rattle.stars_core.specs.Built.{Given, DifferAt};
 ghost use Rattle.stars_core.specs.declared.refusal.TextKind.TheVariants.{Rules};
 ghost use Rattle.stars_core.specs.Judging.{Tokenised, CatalogueRead, QueryRead, UnbuiltCatalogue, UnbuiltQuery};
-ghost use Rattle.stars_core.specs.Small.{IsSmallCatalogue, small_catalogue};
+ghost use Rattle.heap_plan.specs.Small.{small_catalogue};
+ghost use Rattle.stars_core.specs.Small.{IsSmallCatalogue};
 ghost use Rattle.stars_core.specs.TinyText.{tiny_text};
 ghost use Rattle.stars_core.specs.Cut.{IsCut, IsOf, AnswersBuilt, SelectsWhere, said_of, said_by};
 

@@ -13,6 +13,7 @@ mod refusal;
 mod small;
 mod status;
 mod thin;
+mod texts;
 mod top;
 
 pub use answer::Answer;
@@ -22,4 +23,5 @@ pub use laws::one_verdict;
 pub use plan::plan_query;
 pub use refusal::{Refusal, TextKind};
 pub use status::{Found, Status};
+pub use texts::plan_texts;
 pub use top::stars;

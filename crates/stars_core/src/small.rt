@@ -7,7 +7,8 @@ ghost use Rattle.spelling.specs.Queries.{reserved_in_queries};
 ghost use Rattle.spelling.specs.Catalogues.{table_from};
 ghost use Rattle.stars_core.specs.Built.{IsBuiltSite, IsBuiltColumn, IsBuiltTable};
 ghost use Rattle.stars_core.specs.ThinReading.{site_of, column_of, table_of};
-ghost use Rattle.stars_core.specs.Small.{small_catalogue, IsSmallCatalogue, IsSelection};
+ghost use Rattle.heap_plan.specs.Small.{small_catalogue};
+ghost use Rattle.stars_core.specs.Small.{IsSmallCatalogue, IsSelection};
 
 use crate::thin::{ColumnWords, SiteWords, TableWords};
 use star_model::catalogue::{Catalogue, ColumnDef, SiteDef, TableDef};

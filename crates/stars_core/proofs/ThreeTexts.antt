@@ -1,0 +1,58 @@
+-- Three texts that are judged one after the other.
+use Rattle.std.proofs.Common.{◌≡◌, ℕ, List, [], ◌∷◌, Err, string_bytes, subst, sym}
+use Rattle.star_model.specs.declared.catalogue.Catalogue.{Catalogue as CatalogueTree}
+use Rattle.star_model.specs.declared.query.Query.{Query as QueryTree}
+use Rattle.stars_core.specs.declared.refusal.TextKind.{TextKind}
+use Rattle.stars_core.specs.declared.refusal.TextKind.TheVariants.{Rules, Catalogue, Query}
+use Rattle.stars_core.specs.declared.refusal.Refusal.{Refusal}
+use Rattle.stars_core.specs.declared.refusal.Refusal.TheVariants.{Usage, Unread, Refused, Memory}
+use Rattle.stars_core.specs.Built.{Given}
+use Rattle.stars_core.specs.Faults.{Stops, Passes, PassAll}
+use Rattle.stars_core.specs.Judging.{Refuses, RulesPass, CataloguePasses, QueryPasses, StopsAlways, StopsOver}
+use Rattle.stars_core.specs.Plan.{NotPlanned, three}
+use Rattle.stars_core.proofs.FaultLaws.{built_passes}
+
+pub refuses_map : (kind : TextKind) (P Q : List ℕ → Type 0) (refusal : Refusal) → ((line : List ℕ) → P line → Q line) → Refuses kind P refusal → Refuses kind Q refusal
+refuses_map kind P Q Usage f p = p
+refuses_map kind P Q (Unread line) f p = p
+refuses_map kind P Q (Refused k line) f p = (p.0, f _ p.1)
+refuses_map kind P Q Memory f p = tt
+
+pub rules_pass : (r : List ℕ) → RulesPass r → (earlier : List Given) → Passes earlier (Rules, r)
+rules_pass r pass earlier = built_passes earlier (Rules, r) pass.tokens pass.built
+
+pub catalogue_passes : (c : List ℕ) (catalogue : CatalogueTree) → CataloguePasses c catalogue → (earlier : List Given) → Passes earlier (Catalogue, c)
+catalogue_passes c catalogue pass earlier = built_passes earlier (Catalogue, c) pass.tokens (pass.read.count, pass.read.site, pass.read.table, pass.read.has)
+
+pub query_passes : (r c q : List ℕ) (catalogue : CatalogueTree) (query : QueryTree) → CataloguePasses c catalogue → QueryPasses catalogue q query
+    → Passes ((Rules, r) ∷ (Catalogue, c) ∷ []) (Query, q)
+query_passes r c q catalogue query pass of =
+    built_passes ((Rules, r) ∷ (Catalogue, c) ∷ []) (Query, q) of.tokens
+    (of.read.count, pass.read.site, pass.read.table, pass.read.has, of.read.selects pass.read.site pass.read.table pass.read.is)
+
+pub three_pass : (r c q : List ℕ) (catalogue : CatalogueTree) (query : QueryTree) → RulesPass r → CataloguePasses c catalogue → QueryPasses catalogue q query → PassAll [] (three r c q)
+three_pass r c q catalogue query rules pass of = (rules_pass r rules [], (catalogue_passes c catalogue pass ((Rules, r) ∷ []), (query_passes r c q catalogue query pass of, tt)))
+
+-- a query is stopped behind the texts that were accepted
+pub query_stops : (r c q : List ℕ) (catalogue : CatalogueTree) → CataloguePasses c catalogue → (line : List ℕ) → StopsOver catalogue q line → Stops ((Rules, r) ∷ (Catalogue, c) ∷ []) (Query, q) line
+query_stops r c q catalogue pass line stops = stops c pass.read
+
+-- the first of the three that is stopped
+pub rules_not : (r c q : List ℕ) (refusal : Refusal) → Refuses Rules (StopsAlways Rules r) refusal → NotPlanned r c q refusal
+rules_not r c q Usage p = p
+rules_not r c q (Unread line) p = p
+rules_not r c q (Refused kind line) p = rw p.0 (p.1 [])
+rules_not r c q Memory p = tt
+
+pub catalogue_not : (r c q : List ℕ) (refusal : Refusal) → RulesPass r → Refuses Catalogue (StopsAlways Catalogue c) refusal → NotPlanned r c q refusal
+catalogue_not r c q Usage rules p = p
+catalogue_not r c q (Unread line) rules p = p
+catalogue_not r c q (Refused kind line) rules p = rw p.0 (rules_pass r rules [], p.1 ((Rules, r) ∷ []))
+catalogue_not r c q Memory rules p = tt
+
+pub query_not : (r c q : List ℕ) (catalogue : CatalogueTree) (refusal : Refusal) → RulesPass r → CataloguePasses c catalogue → Refuses Query (StopsOver catalogue q) refusal → NotPlanned r c q refusal
+query_not r c q catalogue Usage rules pass p = p
+query_not r c q catalogue (Unread line) rules pass p = p
+query_not r c q catalogue (Refused kind line) rules pass p =
+    rw p.0 (rules_pass r rules [], (catalogue_passes c catalogue pass ((Rules, r) ∷ []), query_stops r c q catalogue pass _ p.1))
+query_not r c q catalogue Memory rules pass p = tt
