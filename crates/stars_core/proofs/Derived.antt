@@ -4,6 +4,8 @@ use Rattle.std.specs.Prelude.{slice_get}
 use Rattle.std.proofs.lemmas.List.{append-nil, append_assoc}
 use Rattle.sb_outside.specs.Shelf.{Files, ShelfState}
 use Rattle.sb_outside.specs.Sink.{SinkState}
+use Rattle.star_model.specs.declared.rules.RuleFile.{RuleFile}
+use Rattle.star_model.specs.declared.query.Query.{Query as QueryTree}
 use Rattle.stars_core.specs.declared.command.Command.{Command}
 use Rattle.stars_core.specs.declared.command.Command.TheVariants.{Plan}
 use Rattle.stars_core.specs.declared.refusal.TextKind.{TextKind}
@@ -16,9 +18,10 @@ use Rattle.stars_core.specs.CommandLine.{CommandLine, Request, command_of, reque
 use Rattle.stars_core.specs.Lines.{refused_status}
 use Rattle.stars_core.specs.Built.{Given}
 use Rattle.stars_core.specs.Faults.{Stops, PassAll}
-use Rattle.stars_core.specs.Plan.{three}
+use Rattle.stars_core.specs.Plan.{Says, PlanText, three}
 use Rattle.stars_core.specs.Shelves.{HeldAs, RefusedAt, PlanAnswered, Puts}
-use Rattle.stars_core.specs.Answers.{OfCommand, Answered, RefusedExactly, StopTold, LinePut}
+use Rattle.stars_core.specs.Answers.{OfCommand, Answered, Complete, RefusedExactly, StopTold, PlanTold, LinePut}
+use Rattle.stars_core.proofs.Says.{one_reading}
 use Rattle.stars_core.proofs.FaultLaws.{one_stop, stopped_passes}
 
 of_command : (words : CommandLine) (command : Command) (P : Command → Type 0) → command_of words ≡ Some command → OfCommand words P → P command
@@ -97,6 +100,56 @@ refused_none : (kind : TextKind) (shelf shelf' : ShelfState) (requests : List Re
     → RefusedAt shelf shelf' requests kind line → shelf.held ≡ Some files → HeldAs (Some files) requests given → PassAll [] given → ⊥
 refused_none kind shelf shelf' requests line files given t told held pass =
     none_stops files [] requests given t.0 t.1 t.2 t.3 line held pass t.4.here (rw told at t.4.held) (rw told at t.6.told) t.6.stops
+
+same_bytes : (files : Files) (name b d : List ℕ) → files name ≡ Some b → files name ≡ Some d → b ≡ d
+same_bytes files name b d e f = let g : Some b ≡ Some d = sym e ∙ f in cc
+
+moved : (r r' c c' q q' : List ℕ) (rules : RuleFile) (query : QueryTree) → r ≡ r' → c ≡ c' → q ≡ q' → Says r c q rules query → Says r' c' q' rules query
+moved r r' c c' q q' rules query e f g says =
+    subst (λ (x : List ℕ). Says x c' q' rules query) e (subst (λ (x : List ℕ). Says r x q' rules query) f (subst (λ (x : List ℕ). Says r c x rules query) g says))
+
+-- what is answered of told texts is answered of what they say
+same_plan : (files : Files) (words : CommandLine) (r c q : List ℕ) (rules : RuleFile) (query : QueryTree) (found : Found) (text : List ℕ)
+    → HeldAs (Some files) (requests_of Plan words) (three r c q) → Says r c q rules query → PlanAnswered (Some files) (requests_of Plan words) found text → PlanText rules query found text
+same_plan files words r c q rules query found text held says a =
+    let held' = a.3.held in
+    let e : r ≡ a.0 = same_bytes files _ r a.0 held.1 held'.1 in
+    let f : c ≡ a.1 = same_bytes files _ c a.1 held.2.1 held'.2.1 in
+    let g : q ≡ a.2 = same_bytes files _ q a.2 held.2.2.1 held'.2.2.1 in
+    let plans = a.4 in
+    let one = one_reading a.0 a.1 a.2 plans.rules rules plans.query query plans.says (moved r a.0 c a.1 q a.2 rules query e f g says) in
+    subst (λ (x : RuleFile). PlanText x query found text) one.0 (subst (λ (y : QueryTree). PlanText plans.rules y found text) one.1 plans.answer)
+
+pub complete : (status : Status) (words : CommandLine) (shelf shelf' : ShelfState) (out out' err err' : SinkState) → Answered status words shelf shelf' out out' err err'
+    → Complete status words shelf shelf' out out'
+complete Done words shelf shelf' out out' err err' answered r c q rules query told quiet_shelf quiet_out =
+    let a = rw told.listed at answered in
+    let b = subst (λ (x : Option Files). PlanAnswered x (requests_of Plan words) Planned a.2.0) told.told a.2.1 in
+    let p = same_plan told.files words r c q rules query Planned a.2.0 told.held told.says b in
+    inr (inl (refl, p.0, p.1, p.2.root))
+complete NoPlan words shelf shelf' out out' err err' answered r c q rules query told quiet_shelf quiet_out =
+    let a = rw told.listed at answered in
+    let b = subst (λ (x : Option Files). PlanAnswered x (requests_of Plan words) Unplanned a.2.0) told.told a.2.1 in
+    let p = same_plan told.files words r c q rules query Unplanned a.2.0 told.held told.says b in
+    inr (inr (refl, p.0))
+complete Usage words shelf shelf' out out' err err' answered r c q rules query told quiet_shelf quiet_out =
+    let e : Some Plan ≡ None = sym told.listed ∙ answered.2.0 in absurd cc
+complete RulesRefused words shelf shelf' out out' err err' answered r c q rules query told quiet_shelf quiet_out =
+    absurd (refused_none kinds.Rules shelf shelf' (requests_of Plan words) answered.1 told.files (three r c q) (rw told.listed at answered.2) told.told told.held told.accepted)
+complete CatalogueRefused words shelf shelf' out out' err err' answered r c q rules query told quiet_shelf quiet_out =
+    absurd (refused_none kinds.Catalogue shelf shelf' (requests_of Plan words) answered.1 told.files (three r c q) (rw told.listed at answered.2) told.told told.held told.accepted)
+complete QueryRefused words shelf shelf' out out' err err' answered r c q rules query told quiet_shelf quiet_out =
+    absurd (refused_none kinds.Query shelf shelf' (requests_of Plan words) answered.1 told.files (three r c q) (rw told.listed at answered.2) told.told told.held told.accepted)
+complete ReadFault words shelf shelf' out out' err err' answered r c q rules query told quiet_shelf quiet_out =
+    let u = rw told.listed at answered.2 in absurd (quiet_shelf u.4.rose)
+complete WriteFault words shelf shelf' out out' err err' answered r c q rules query told quiet_shelf quiet_out =
+    let a = rw told.listed at answered in absurd (quiet_out a.4.rose)
+complete Memory words shelf shelf' out out' err err' answered r c q rules query told quiet_shelf quiet_out = inl refl
+complete TableRefused words shelf shelf' out out' err err' answered r c q rules query told quiet_shelf quiet_out = absurd answered.2
+complete NotDerived words shelf shelf' out out' err err' answered r c q rules query told quiet_shelf quiet_out = absurd answered.2
+complete DerivationRefused words shelf shelf' out out' err err' answered r c q rules query told quiet_shelf quiet_out = absurd answered.2
+complete SessionRefused words shelf shelf' out out' err err' answered r c q rules query told quiet_shelf quiet_out = absurd answered.2
+complete CertificateRefused words shelf shelf' out out' err err' answered r c q rules query told quiet_shelf quiet_out = absurd answered.2
 
 -- what is put out is put of texts that are accepted
 puts_pass : (command : Command) (told : Option Files) (words : CommandLine) (found : Found) (pieces : List (List ℕ)) → Puts command told words found pieces

@@ -9,3 +9,4 @@ pub mod BuiltLaws
 pub mod ThinLaws
 pub mod Says
 pub mod ThreeTexts
+mod ThreeFiles

@@ -4,6 +4,11 @@ use Rattle.std.specs.List.{concat}
 use Rattle.sb_outside.specs.Counts.{Rose, RoseAtMost}
 use Rattle.sb_outside.specs.Shelf.{Files, ShelfState, NoFault}
 use Rattle.sb_outside.specs.Sink.{SinkState, Adds, AddsPrefix}
+use Rattle.star_model.specs.Derivations.{IsRoot}
+use Rattle.star_model.specs.declared.rules.RuleFile.{RuleFile}
+use Rattle.star_model.specs.declared.query.Query.{Query as QueryTree}
+use Rattle.star_model.specs.declared.derivations.Deriv.{Deriv}
+use Rattle.star_model.specs.declared.plans.Props.{Props}
 use Rattle.stars_core.specs.declared.command.Command.{Command}
 use Rattle.stars_core.specs.declared.command.Command.TheVariants.{Plan}
 use Rattle.stars_core.specs.declared.refusal.TextKind.{TextKind}
@@ -16,7 +21,7 @@ use Rattle.stars_core.specs.CommandLine.{CommandLine, Request, command_of, reque
 use Rattle.stars_core.specs.Lines.{usage_line, cannot_write, out_of_memory, refused_status}
 use Rattle.stars_core.specs.Built.{Given}
 use Rattle.stars_core.specs.Faults.{Stops, PassAll}
-use Rattle.stars_core.specs.Plan.{Plans, three}
+use Rattle.stars_core.specs.Plan.{Says, Plans, three}
 use Rattle.stars_core.specs.Shelves.{HeldAs, RefusedAt, UnreadAt, Puts}
 
 -- the words are a listed form, and P holds of the command
@@ -72,6 +77,28 @@ Answered WriteFault words shelf shelf' out out' err err' = OfCommand words (λ c
 Answered status words shelf shelf' out out' err err' =
     (out' ≡ out) × (line : List ℕ) × Caused status words shelf shelf' line × LinePut err err' line
 
+-- how planning has to end
+abbrev pub Ends : RuleFile → QueryTree → Status → Type 0
+Ends rules query status =
+    ((status ≡ Done) × (d : Deriv) × (v : Props) × IsRoot query rules d v)
+    ⊎ ((status ≡ NoPlan) × ((d : Deriv) (v : Props) → IsRoot query rules d v → ⊥))
+
+-- three files that the shelf tells, and what they say
+pub record PlanTold (words : CommandLine) (shelf : ShelfState) (r c q : List ℕ) (rules : RuleFile) (query : QueryTree) : Type 0 where
+  pub files : Files
+  pub told : shelf.held ≡ Some files
+  pub listed : command_of words ≡ Some Plan
+  pub held : HeldAs (Some files) (requests_of Plan words) (three r c q)
+  pub accepted : PassAll [] (three r c q)
+  pub says : Says r c q rules query
+
+-- Where three files are told that say something, and nothing fails, planning ends.
+abbrev pub Complete : Status → CommandLine → ShelfState → ShelfState → SinkState → SinkState → Type 0
+Complete status words shelf shelf' out out' =
+    (r c q : List ℕ) (rules : RuleFile) (query : QueryTree) → PlanTold words shelf r c q rules query
+    → (Rose shelf.faults shelf'.faults → ⊥) → (Rose out.faults out'.faults → ⊥)
+    → (status ≡ Memory) ⊎ Ends rules query status
+
 -- a told text that is stopped, after told texts that are accepted
 pub record StopTold (words : CommandLine) (shelf : ShelfState) (place : ℕ) (this : Request) (earlier : List Given) (bytes line : List ℕ) : Type 0 where
   pub files : Files
@@ -95,3 +122,11 @@ RefusedExactly status words shelf shelf' err err' =
 abbrev pub calls_of : CommandLine → Option Command → ℕ
 calls_of words None = 0
 calls_of words (Some command) = length (requests_of command words)
+
+-- what a run that is done put out is a plan of the least cost of what some texts say
+abbrev pub DoneSays : SinkState → SinkState → Type 0
+DoneSays out out' = (r : List ℕ) × (c : List ℕ) × (q : List ℕ) × (text : List ℕ) × Plans r c q Planned text × Adds out.taken text out'.taken
+
+-- there are files of which completeness speaks
+abbrev pub SomeTold : Type 0
+SomeTold = (words : CommandLine) × (shelf : ShelfState) × (r : List ℕ) × (c : List ℕ) × (q : List ℕ) × (rules : RuleFile) × (query : QueryTree) × PlanTold words shelf r c q rules query

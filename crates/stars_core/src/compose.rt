@@ -20,13 +20,13 @@ fn plan<S: Shelf>(
     ensures goes { GoesBy 3 (S.state shelf.old) (S.state shelf.new) }
     ensures ran { PlanRan (S.state shelf.old) (S.state shelf.new) (three_requests rules.now catalogue.now query.now) result }
 {
-    let r = fetch(alloc, shelf, TextKind::Rules, rules)?;
-    judge_rules(alloc, r.as_slice())?;
-    let c = fetch(alloc, shelf, TextKind::Catalogue, catalogue)?;
-    let catalogue = judge_catalogue(alloc, c.as_slice())?;
-    let q = fetch(alloc, shelf, TextKind::Query, query)?;
-    let query = judge_query(alloc, catalogue, q.as_slice())?;
-    let answer = plan_query(alloc, &query)?;
+    let rule_text = fetch(alloc, shelf, TextKind::Rules, rules)?;
+    judge_rules(alloc, rule_text.as_slice())?;
+    let catalogue_text = fetch(alloc, shelf, TextKind::Catalogue, catalogue)?;
+    let tree = judge_catalogue(alloc, catalogue_text.as_slice())?;
+    let query_text = fetch(alloc, shelf, TextKind::Query, query)?;
+    let selection = judge_query(alloc, tree, query_text.as_slice())?;
+    let answer = plan_query(alloc, &selection)?;
     Ok(answer)
 }
 

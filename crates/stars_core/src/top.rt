@@ -4,7 +4,7 @@ ghost use Rattle.sb_outside.specs.Counts.{Rose, RoseAtMost};
 ghost use Rattle.sb_outside.specs.Sink.{Adds, AddsPrefix};
 ghost use Rattle.stars_core.specs.CommandLine.{bytes_of, command_of};
 ghost use Rattle.stars_core.specs.Lines.{cannot_write};
-ghost use Rattle.stars_core.specs.Answers.{Answered, RefusedExactly, LinePut, calls_of};
+ghost use Rattle.stars_core.specs.Answers.{Answered, Complete, RefusedExactly, LinePut, calls_of};
 
 use crate::compose::compose;
 use crate::{Answer, Found, Status};
@@ -41,6 +41,7 @@ pub fn stars<S: Shelf, O: Sink, E: Sink>(
 ) -> Status
     ensures usage { (result ≡ Status.Usage) ↔ (command_of (bytes_of words.now) ≡ None) }
     ensures answer { Answered result (bytes_of words.now) (S.state shelf.old) (S.state shelf.new) (O.state out.old) (O.state out.new) (E.state err.old) (E.state err.new) }
+    ensures complete { Complete result (bytes_of words.now) (S.state shelf.old) (S.state shelf.new) (O.state out.old) (O.state out.new) }
     ensures refused { RefusedExactly result (bytes_of words.now) (S.state shelf.old) (S.state shelf.new) (E.state err.old) (E.state err.new) }
     ensures calls { RoseAtMost (calls_of (bytes_of words.now) (command_of (bytes_of words.now))) (S.state shelf.old).calls (S.state shelf.new).calls }
     ensures read_faults { (S.state shelf.old).faults < (S.state shelf.new).faults → (result ≡ Status.ReadFault) ⊎ (result ≡ Status.Memory) }

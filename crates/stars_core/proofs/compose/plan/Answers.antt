@@ -1,16 +1,80 @@
-use Rattle.std.proofs.Common.{[], ◌∷◌}
+use Rattle.std.proofs.Common.{refl}
 use Rattle.std.proofs.lemmas.Result.{err_from_is_err_and}
-use Rattle.stars_core.specs.declared.refusal.TextKind.TheVariants.{Rules, Catalogue, Query}
-use Rattle.stars_core.proofs.Along.{starts, unfetched, stopped}
+use Rattle.spelling.specs.Tiny.{tiny_rules}
+use Rattle.stars_core.proofs.Says.{is_small, says}
+use Rattle.stars_core.proofs.ThreeFiles.{rules_unfetched, rules_refused, after_rules, catalogue_unfetched, catalogue_refused, after_catalogue, query_unfetched, query_refused, after_query}
 use Rattle.stars_core.proofs.compose.plan.Goals as goal
 
-pub returns-in_err-r-clause-ran : goal.returns-in_err-r-clause-ran
-returns-in_err-r-clause-ran g c =
+pub returns-in_err-rule_text-clause-ran : goal.returns-in_err-rule_text-clause-ran
+returns-in_err-rule_text-clause-ran g c =
     let p = err_from_is_err_and c.from_residual.result c.from_residual.ensures.1 in
-    rw (p.1, p.2)
-    (unfetched _ _ _ [] ((Catalogue, c.args.catalogue.now) ∷ (Query, c.args.query.now) ∷ []) (Rules, c.args.rules.now) [] _ (starts _) c.in_err-r.ensures.goes c.in_err-r.ensures.fetched)
+    rw (p.1, p.2) (rules_unfetched (g.S.Shelf.state c.args.shelf.now) c.args.rules.now c.args.catalogue.now c.args.query.now (g.S.Shelf.state c.fetch.new.shelf) _ c.in_err-rule_text.ensures.goes c.in_err-rule_text.ensures.fetched)
+
+pub returns-in_err-judge_rules-clause-ran : goal.returns-in_err-judge_rules-clause-ran
+returns-in_err-judge_rules-clause-ran g c =
+    let p = err_from_is_err_and c.from_residual-in_err-judge_rules.result c.from_residual-in_err-judge_rules.ensures.1 in
+    rw (p.1, p.2) (rules_refused (g.S.Shelf.state c.args.shelf.now) c.args.rules.now c.args.catalogue.now c.args.query.now (g.S.Shelf.state c.fetch.new.shelf) c.in_ok-rule_text.rule_text _ c.in_ok-rule_text.ensures.goes c.in_ok-rule_text.ensures.fetched (rw c.as_slice.ensures.value at c.in_err-judge_rules.ensures))
+
+pub returns-in_err-catalogue_text-clause-ran : goal.returns-in_err-catalogue_text-clause-ran
+returns-in_err-catalogue_text-clause-ran g c =
+    let rules_ok = rw c.as_slice.ensures.value at c.in_ok-judge_rules.ensures in
+    let first = after_rules (g.S.Shelf.state c.args.shelf.now) c.args.rules.now c.args.catalogue.now c.args.query.now (g.S.Shelf.state c.fetch.new.shelf) c.in_ok-rule_text.rule_text c.in_ok-rule_text.ensures.goes c.in_ok-rule_text.ensures.fetched rules_ok in
+    let p = err_from_is_err_and c.from_residual-in_err-catalogue_text.result c.from_residual-in_err-catalogue_text.ensures.1 in
+    rw (p.1, p.2) (catalogue_unfetched (g.S.Shelf.state c.args.shelf.now) c.args.rules.now c.args.catalogue.now c.args.query.now (g.S.Shelf.state c.fetch.new.shelf) c.in_ok-rule_text.rule_text.items first (g.S.Shelf.state c.fetch-2.new.shelf) _ c.in_err-catalogue_text.ensures.goes c.in_err-catalogue_text.ensures.fetched)
+
+pub returns-in_err-tree-clause-ran : goal.returns-in_err-tree-clause-ran
+returns-in_err-tree-clause-ran g c =
+    let rules_ok = rw c.as_slice.ensures.value at c.in_ok-judge_rules.ensures in
+    let first = after_rules (g.S.Shelf.state c.args.shelf.now) c.args.rules.now c.args.catalogue.now c.args.query.now (g.S.Shelf.state c.fetch.new.shelf) c.in_ok-rule_text.rule_text c.in_ok-rule_text.ensures.goes c.in_ok-rule_text.ensures.fetched rules_ok in
+    let p = err_from_is_err_and c.from_residual-in_err-tree.result c.from_residual-in_err-tree.ensures.1 in
+    rw (p.1, p.2) (catalogue_refused (g.S.Shelf.state c.args.shelf.now) c.args.rules.now c.args.catalogue.now c.args.query.now (g.S.Shelf.state c.fetch.new.shelf) c.in_ok-rule_text.rule_text.items first (g.S.Shelf.state c.fetch-2.new.shelf) c.in_ok-catalogue_text.catalogue_text _
+    c.in_ok-catalogue_text.ensures.goes c.in_ok-catalogue_text.ensures.fetched (rw c.as_slice-2.ensures.value at c.in_err-tree.ensures))
+
+pub returns-in_err-query_text-clause-ran : goal.returns-in_err-query_text-clause-ran
+returns-in_err-query_text-clause-ran g c =
+    let rules_ok = rw c.as_slice.ensures.value at c.in_ok-judge_rules.ensures in
+    let first = after_rules (g.S.Shelf.state c.args.shelf.now) c.args.rules.now c.args.catalogue.now c.args.query.now (g.S.Shelf.state c.fetch.new.shelf) c.in_ok-rule_text.rule_text c.in_ok-rule_text.ensures.goes c.in_ok-rule_text.ensures.fetched rules_ok in
+    let catalogue_ok = rw c.as_slice-2.ensures.value at c.in_ok-tree.ensures in
+    let second = after_catalogue (g.S.Shelf.state c.args.shelf.now) c.args.rules.now c.args.catalogue.now c.args.query.now (g.S.Shelf.state c.fetch.new.shelf) c.in_ok-rule_text.rule_text.items first (g.S.Shelf.state c.fetch-2.new.shelf) c.in_ok-catalogue_text.catalogue_text c.in_ok-tree.tree
+    c.in_ok-catalogue_text.ensures.goes c.in_ok-catalogue_text.ensures.fetched catalogue_ok in
+    let p = err_from_is_err_and c.from_residual-in_err-query_text.result c.from_residual-in_err-query_text.ensures.1 in
+    rw (p.1, p.2) (query_unfetched (g.S.Shelf.state c.args.shelf.now) c.args.rules.now c.args.catalogue.now c.args.query.now (g.S.Shelf.state c.fetch-2.new.shelf) c.in_ok-rule_text.rule_text.items c.in_ok-catalogue_text.catalogue_text.items second (g.S.Shelf.state c.fetch-3.new.shelf) _ c.in_err-query_text.ensures.goes c.in_err-query_text.ensures.fetched)
+
+pub returns-in_err-selection-clause-ran : goal.returns-in_err-selection-clause-ran
+returns-in_err-selection-clause-ran g c =
+    let rules_ok = rw c.as_slice.ensures.value at c.in_ok-judge_rules.ensures in
+    let first = after_rules (g.S.Shelf.state c.args.shelf.now) c.args.rules.now c.args.catalogue.now c.args.query.now (g.S.Shelf.state c.fetch.new.shelf) c.in_ok-rule_text.rule_text c.in_ok-rule_text.ensures.goes c.in_ok-rule_text.ensures.fetched rules_ok in
+    let catalogue_ok = rw c.as_slice-2.ensures.value at c.in_ok-tree.ensures in
+    let second = after_catalogue (g.S.Shelf.state c.args.shelf.now) c.args.rules.now c.args.catalogue.now c.args.query.now (g.S.Shelf.state c.fetch.new.shelf) c.in_ok-rule_text.rule_text.items first (g.S.Shelf.state c.fetch-2.new.shelf) c.in_ok-catalogue_text.catalogue_text c.in_ok-tree.tree
+    c.in_ok-catalogue_text.ensures.goes c.in_ok-catalogue_text.ensures.fetched catalogue_ok in
+    let p = err_from_is_err_and c.from_residual-in_err-selection.result c.from_residual-in_err-selection.ensures.1 in
+    rw (p.1, p.2) (query_refused (g.S.Shelf.state c.args.shelf.now) c.args.rules.now c.args.catalogue.now c.args.query.now (g.S.Shelf.state c.fetch-2.new.shelf) c.in_ok-rule_text.rule_text.items c.in_ok-catalogue_text.catalogue_text.items second (g.S.Shelf.state c.fetch-3.new.shelf) c.in_ok-tree.tree c.in_ok-query_text.query_text _ catalogue_ok
+    c.in_ok-query_text.ensures.goes c.in_ok-query_text.ensures.fetched (rw c.as_slice-3.ensures.value at c.in_err-selection.ensures))
+
+pub plan_query-requires : goal.plan_query-requires
+plan_query-requires g c =
+    let catalogue_ok = rw c.as_slice-2.ensures.value at c.in_ok-tree.ensures in
+    let query_ok = rw c.as_slice-3.ensures.value at c.in_ok-selection.ensures in
+    is_small c.in_ok-catalogue_text.catalogue_text.items c.in_ok-tree.tree catalogue_ok c.in_ok-query_text.query_text.items c.in_ok-selection.selection query_ok
 
 pub returns-clause-ran : goal.returns-clause-ran
 returns-clause-ran g c =
-    stopped _ _ _ [] ((Catalogue, c.args.catalogue.now) ∷ (Query, c.args.query.now) ∷ []) (Rules, c.args.rules.now) [] c.in_ok-r.r _ (starts _) c.in_ok-r.ensures.goes c.in_ok-r.ensures.fetched
-    (rw c.as_slice.ensures.value at c.judge.ensures [])
+    let rules_ok = rw c.as_slice.ensures.value at c.in_ok-judge_rules.ensures in
+    let first = after_rules (g.S.Shelf.state c.args.shelf.now) c.args.rules.now c.args.catalogue.now c.args.query.now (g.S.Shelf.state c.fetch.new.shelf) c.in_ok-rule_text.rule_text c.in_ok-rule_text.ensures.goes c.in_ok-rule_text.ensures.fetched rules_ok in
+    let catalogue_ok = rw c.as_slice-2.ensures.value at c.in_ok-tree.ensures in
+    let second = after_catalogue (g.S.Shelf.state c.args.shelf.now) c.args.rules.now c.args.catalogue.now c.args.query.now (g.S.Shelf.state c.fetch.new.shelf) c.in_ok-rule_text.rule_text.items first (g.S.Shelf.state c.fetch-2.new.shelf) c.in_ok-catalogue_text.catalogue_text c.in_ok-tree.tree
+    c.in_ok-catalogue_text.ensures.goes c.in_ok-catalogue_text.ensures.fetched catalogue_ok in
+    let query_ok = rw c.as_slice-3.ensures.value at c.in_ok-selection.ensures in
+    let third = after_query (g.S.Shelf.state c.args.shelf.now) c.args.rules.now c.args.catalogue.now c.args.query.now (g.S.Shelf.state c.fetch-2.new.shelf) c.in_ok-rule_text.rule_text.items c.in_ok-catalogue_text.catalogue_text.items second (g.S.Shelf.state c.fetch-3.new.shelf) c.in_ok-tree.tree c.in_ok-query_text.query_text c.in_ok-selection.selection catalogue_ok
+    c.in_ok-query_text.ensures.goes c.in_ok-query_text.ensures.fetched query_ok in (third.quiet, (
+      c.in_ok-rule_text.rule_text.items,
+      c.in_ok-catalogue_text.catalogue_text.items,
+      c.in_ok-query_text.query_text.items,
+      record { held = third.held; accepted = third.accepted },
+      record {
+        rules = tiny_rules;
+        query = c.in_ok-selection.selection;
+        says = says c.in_ok-catalogue_text.catalogue_text.items c.in_ok-tree.tree catalogue_ok c.in_ok-query_text.query_text.items c.in_ok-selection.selection query_ok c.in_ok-rule_text.rule_text.items rules_ok;
+        answer = c.in_ok-answer.ensures;
+      },
+    ))

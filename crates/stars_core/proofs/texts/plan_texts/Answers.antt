@@ -14,16 +14,16 @@ returns-in_err-tree c =
     let p = err_from_is_err_and c.from_residual-in_err-tree.result c.from_residual-in_err-tree.ensures.1 in
     rw (p.1, p.2) (catalogue_not c.args.rules.now c.args.catalogue.now c.args.query.now _ c.in_ok-judge_rules.ensures c.in_err-tree.ensures)
 
-pub judge_query-query-requires : goal.judge_query-query-requires
-judge_query-query-requires c = is_small_catalogue c.args.catalogue.now c.in_ok-tree.tree c.in_ok-tree.ensures
+pub judge_query-requires : goal.judge_query-requires
+judge_query-requires c = is_small_catalogue c.args.catalogue.now c.in_ok-tree.tree c.in_ok-tree.ensures
 
 pub returns-in_err-query : goal.returns-in_err-query
 returns-in_err-query c =
     let p = err_from_is_err_and c.from_residual-in_err-query.result c.from_residual-in_err-query.ensures.1 in
     rw (p.1, p.2) (query_not c.args.rules.now c.args.catalogue.now c.args.query.now c.in_ok-tree.tree _ c.in_ok-judge_rules.ensures c.in_ok-tree.ensures c.in_err-query.ensures)
 
-pub plan_query-answer-requires : goal.plan_query-answer-requires
-plan_query-answer-requires c = is_small c.args.catalogue.now c.in_ok-tree.tree c.in_ok-tree.ensures c.args.query.now c.in_ok-query.query c.in_ok-query.ensures
+pub plan_query-requires : goal.plan_query-requires
+plan_query-requires c = is_small c.args.catalogue.now c.in_ok-tree.tree c.in_ok-tree.ensures c.args.query.now c.in_ok-query.query c.in_ok-query.ensures
 
 pub returns : goal.returns
 returns c = (

@@ -1,9 +1,38 @@
 use Rattle.std.proofs.Common.{refl}
+use Rattle.stars_core.specs.declared.status.Status.TheVariants.{Done, NoPlan, WriteFault}
+use Rattle.stars_core.specs.declared.status.Found.TheVariants.{Planned, Unplanned}
 use Rattle.stars_core.specs.CommandLine.{bytes_of, command_of}
 use Rattle.stars_core.specs.Lines.{status_of}
-use Rattle.stars_core.proofs.Derived.{refused_exactly}
-use Rattle.stars_core.proofs.Causes.{answered_at}
+use Rattle.stars_core.proofs.Derived.{complete, refused_exactly}
+use Rattle.stars_core.proofs.Causes.{answered_at, output_at, part_at}
 use Rattle.stars_core.proofs.top.stars.Goals as goal
+
+pub returns-in-Planned-clause-answer : goal.returns-in-Planned-clause-answer
+returns-in-Planned-clause-answer g c =
+    output_at Planned (bytes_of c.args.words.now) (command_of (bytes_of c.args.words.now)) _ _ _ _ _ c.in-Ok.answer refl c.in-Ok.ensures c.in-Planned.is
+    c.in-Ok-emit.ensures.puts c.in-Ok-emit.ensures.added c.in-Ok-emit.ensures.no_fault
+
+pub returns-in-Planned-clause-refused : goal.returns-in-Planned-clause-refused
+returns-in-Planned-clause-refused g c =
+    refused_exactly Done (bytes_of c.args.words.now) _ _ (g.O.Sink.state c.args.out.now) (g.O.Sink.state c.emit.new.out) _ _ (returns-in-Planned-clause-answer g c)
+
+pub returns-in-Ok-emit-clause-answer : goal.returns-in-Ok-emit-clause-answer
+returns-in-Ok-emit-clause-answer g c =
+    output_at Unplanned (bytes_of c.args.words.now) (command_of (bytes_of c.args.words.now)) _ _ _ _ _ c.in-Ok.answer refl c.in-Ok.ensures c.in-Unplanned.is
+    c.in-Ok-emit.ensures.puts c.in-Ok-emit.ensures.added c.in-Ok-emit.ensures.no_fault
+
+pub returns-in-Ok-emit-clause-refused : goal.returns-in-Ok-emit-clause-refused
+returns-in-Ok-emit-clause-refused g c =
+    refused_exactly NoPlan (bytes_of c.args.words.now) _ _ (g.O.Sink.state c.args.out.now) (g.O.Sink.state c.emit.new.out) _ _ (returns-in-Ok-emit-clause-answer g c)
+
+pub returns-in-Ok-clause-answer : goal.returns-in-Ok-clause-answer
+returns-in-Ok-clause-answer g c =
+    part_at (bytes_of c.args.words.now) (command_of (bytes_of c.args.words.now)) _ _ _ _ _ _ c.in-Ok.answer refl c.in-Ok.ensures
+    c.in-Err-emit.ensures.puts c.in-Err-emit.ensures.part c.in-Err-emit.ensures.failed c.tell.ensures
+
+pub returns-in-Ok-clause-refused : goal.returns-in-Ok-clause-refused
+returns-in-Ok-clause-refused g c =
+    refused_exactly WriteFault (bytes_of c.args.words.now) _ _ (g.O.Sink.state c.args.out.now) (g.O.Sink.state c.emit.new.out) _ _ (returns-in-Ok-clause-answer g c)
 
 pub returns-clause-refused : goal.returns-clause-refused
 returns-clause-refused g c =
@@ -13,3 +42,24 @@ returns-clause-refused g c =
     in
     rw c.status.ensures
     (refused_exactly (status_of c.in-Err.refusal) (bytes_of c.args.words.now) _ _ (g.O.Sink.state c.args.out.now) (g.O.Sink.state c.args.out.now) _ _ answered)
+
+pub returns-in-Planned-clause-complete : goal.returns-in-Planned-clause-complete
+returns-in-Planned-clause-complete g c =
+    complete Done (bytes_of c.args.words.now) _ _ (g.O.Sink.state c.args.out.now) (g.O.Sink.state c.emit.new.out) (g.E.Sink.state c.args.err.now) (g.E.Sink.state c.args.err.now) (returns-in-Planned-clause-answer g c)
+
+pub returns-in-Ok-emit-clause-complete : goal.returns-in-Ok-emit-clause-complete
+returns-in-Ok-emit-clause-complete g c =
+    complete NoPlan (bytes_of c.args.words.now) _ _ (g.O.Sink.state c.args.out.now) (g.O.Sink.state c.emit.new.out) (g.E.Sink.state c.args.err.now) (g.E.Sink.state c.args.err.now) (returns-in-Ok-emit-clause-answer g c)
+
+pub returns-in-Ok-clause-complete : goal.returns-in-Ok-clause-complete
+returns-in-Ok-clause-complete g c =
+    complete WriteFault (bytes_of c.args.words.now) _ _ (g.O.Sink.state c.args.out.now) (g.O.Sink.state c.emit.new.out) (g.E.Sink.state c.args.err.now) (g.E.Sink.state c.tell.new.err) (returns-in-Ok-clause-answer g c)
+
+pub returns-clause-complete : goal.returns-clause-complete
+returns-clause-complete g c =
+    let answered =
+    answered_at (bytes_of c.args.words.now) c.in-Err.refusal (command_of (bytes_of c.args.words.now)) _ _ (g.O.Sink.state c.args.out.now) _ _ refl c.in-Err.ensures
+    (rw c.line.ensures at c.tell-in-Err.ensures)
+    in
+    rw c.status.ensures
+    (complete (status_of c.in-Err.refusal) (bytes_of c.args.words.now) _ _ (g.O.Sink.state c.args.out.now) (g.O.Sink.state c.args.out.now) _ _ answered)
