@@ -8,7 +8,7 @@ pub use Rattle.star_model.proofs.MonotoneLaws.{monotone}
 pub use Rattle.star_model.proofs.OffendLaws.{passes_where}
 pub use Rattle.star_model.proofs.BetterLaws.{better_reflexive, better_transitive, better_antisymmetric}
 pub use Rattle.star_model.proofs.ExchangeLaws.{operators_exchange}
-pub use Rattle.star_model.proofs.ChainLaws.{step_card, vector_card, chains_exchange, better_satisfies}
+pub use Rattle.star_model.proofs.ChainLaws.{vector_card, chains_exchange, better_satisfies}
 pub use Rattle.star_model.proofs.KindLaws.{means}
 pub use Rattle.star_model.proofs.CostLaws.{formula_of-push}
 use Rattle.star_model.proofs.SetLaws.{within-has, has-within}
