@@ -1,7 +1,7 @@
 // Rule files, catalogues and queries that are refused, each by its first fault.
 use crate::runs::{NO_FAULTS, plan, run};
 use crate::texts::{
-    DERIVATION, NAME_64, NAME_65, SELECTION, STANDARD, TABLE, TINY, lengthened, nested,
+    DERIVATION, FIRST_RULE, NAME_64, NAME_65, SELECTION, STANDARD, TABLE, TINY, lengthened, nested,
 };
 use std::test::Fail;
 
@@ -9,53 +9,56 @@ use std::test::Fail;
 fn refuses_rules(rt: HostRuntime) -> Result<(), Fail> {
     let alloc = rt.alloc();
     let rows = [
-        ("cost SORT = cost1 ? 2;", "no token at byte 18"),
-        ("'", "no token at byte 0"),
-        ("'a''b", "no token at byte 3"),
-        ("12345678901234567890;", "no token at byte 0"),
-        ("1234567890123456789;", "statement 1 is not built yet"),
-        ("a < b <= c <> d <>= e;", "statement 1 is not built yet"),
-        ("cost SORT = 1; # it's", "statement 1 is not built yet"),
-        ("", "statement 1 is not built yet"),
-        ("# nothing", "statement 1 is not built yet"),
-        (";", "statement 1 is not built yet"),
-        (
-            "cost ACCESS_HEAP = 10 * pages + cpu * rows;",
-            "statement 2 is not built yet",
-        ),
-        (
-            "cost ACCESS_HEAP = 10 * pages + cpu * rows",
-            "statement 1 is not built yet",
-        ),
-        (
-            "cost ACCESS_HEAP = 11 * pages + cpu * rows;",
-            "statement 1 is not built yet",
-        ),
-        (STANDARD, "statement 3 is not built yet"),
+        ("", "cost SORT = cost1 ? 2;", "no token at byte 18"),
+        ("", "'", "no token at byte 0"),
+        ("", "'a''b", "no token at byte 3"),
+        ("", "12345678901234567890;", "no token at byte 0"),
+        ("", "1234567890123456789;", "statement 1 is not built yet"),
+        ("", "a < b <= c <> d <>= e;", "statement 1 is not built yet"),
+        ("", "cost SORT = 1; # it's", "statement 1 is not built yet"),
+        ("", "", "statement 1 is not built yet"),
+        ("", "# nothing", "statement 1 is not built yet"),
+        ("", ";", "statement 1 is not built yet"),
+        (FIRST_RULE, "", "statement 1 is not built yet"),
+        (FIRST_RULE, ";", "statement 2 is not built yet"),
+        ("", STANDARD, "statement 3 is not built yet"),
+        (TINY, ";", "statement 11 is not built yet"),
+        (TINY, "cost GET = 1;", "statement 11 is not built yet"),
+        (TINY, "cost", "statement 11 is not built yet"),
+        (TINY, "\"", "no token at byte 428"),
     ];
-    for (rules, fault) in rows {
-        let told = plan(alloc, rules, TABLE, SELECTION)?;
+    for (front, more, fault) in rows {
+        let rules = format!(in alloc; "{front}{more}")?;
+        let told = plan(alloc, rules.as_str(), TABLE, SELECTION)?;
         let wanted = format!(in alloc; "RulesRefused, calls 1\nout: \nerr: rules: {fault}\n")?;
-        assert_eq!(rt; told.as_str(), wanted.as_str(), "{rules}");
+        assert_eq!(rt; told.as_str(), wanted.as_str(), "{front}{more}");
     }
     Ok(())
 }
 
-// Texts behind the smallest rules.
+// Changes of the smallest rules, and the first statement that is not theirs.
 #[test]
-fn refuses_more_rules(rt: HostRuntime) -> Result<(), Fail> {
+fn refuses_changed_rules(rt: HostRuntime) -> Result<(), Fail> {
     let alloc = rt.alloc();
     let rows = [
-        (";", "statement 11 is not built yet"),
-        ("cost GET = 1;", "statement 11 is not built yet"),
-        ("cost", "statement 11 is not built yet"),
-        ("\"", "no token at byte 428"),
+        ("10", "11", 1),
+        ("rescan ACCESS_HEAP", "rescan GET", 2),
+        ("cost1 + 4", "cost1 - 4", 3),
+        ("rescan1 + 4 * card1;", "rescan1 + 4 * card1", 4),
+        ("cost STORE", "cost store", 5),
+        ("= card1;", "= card1; ;", 7),
+        ("width1", "width2", 7),
+        ("rescan1 + net", "rescan1 + (net)", 8),
+        ("A stream", "A quants", 9),
+        ("B stream", "C stream", 10),
     ];
-    for (more, fault) in rows {
-        let rules = format!(in alloc; "{TINY}{more}")?;
+    for (old, new, statement) in rows {
+        let rules = TINY.replace(alloc, old, new)?;
         let told = plan(alloc, rules.as_str(), TABLE, SELECTION)?;
-        let wanted = format!(in alloc; "RulesRefused, calls 1\nout: \nerr: rules: {fault}\n")?;
-        assert_eq!(rt; told.as_str(), wanted.as_str(), "{more}");
+        let wanted = format!(in alloc;
+            "RulesRefused, calls 1\nout: \nerr: rules: statement {statement} is not built yet\n"
+        )?;
+        assert_eq!(rt; told.as_str(), wanted.as_str(), "{new} for {old}");
     }
     Ok(())
 }
@@ -121,7 +124,7 @@ fn refuses_catalogues(rt: HostRuntime) -> Result<(), Fail> {
         ("0);", "0)", 2),
         ("at hq", "at here", 2),
         ("rows 0", "rows 1000000000000000001", 2),
-        ("pages 0", "pages 9999999999999999999", 2),
+        ("pages 0", "pages 1000000000000000001", 2),
         ("width 8", "width 1000000000000000001", 2),
         ("distinct 0", "distinct 1000000000000000001", 2),
         (

@@ -14,6 +14,9 @@ star AccessRoot(A stream, J preds) = give ACCESS_HEAP(A, J);
 star JoinRoot(A stream, B stream, J preds) = give ACCESS_HEAP(A, J);
 ";
 
+/// Its first statement, without the semicolon.
+pub const FIRST_RULE: &str = "cost ACCESS_HEAP = 10 * pages + cpu * rows";
+
 /// A catalogue of one table of one column, with no rows.
 pub const TABLE: &str =
     "site hq cpu 1 net 1; table t at hq rows 0 pages 0 file 't.csv' (a int width 8 distinct 0);";
