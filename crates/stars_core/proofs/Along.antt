@@ -1,5 +1,5 @@
 -- A command on its way along its files.
-use Rattle.std.proofs.Common.{◌≡◌, ◌<◌, ◌≤◌, ◌+◌, ◌++◌, ℕ, List, [], ◌∷◌, length, take, Option, None, Some, Result, Ok, Err, refl, ap, sym, ◌∙◌, subst, arith, false, Vec, string_bytes}
+use Rattle.std.proofs.Common.{◌≡◌, ◌+◌, ◌++◌, ℕ, List, [], ◌∷◌, length, take, Option, Some, Ok, refl, ap, arith, false, Vec, string_bytes}
 use Rattle.std.specs.Prelude.{slice_get}
 use Rattle.std.specs.declared.alloc.Global.{Global}
 use Rattle.sb_outside.specs.Shelf.{Files, ShelfState, Goes, GoesBy, NoFault, TellsBytes, TellsMore}

@@ -1,9 +1,8 @@
 -- Which statement is the first without a reader.
-use Rattle.std.proofs.Common.{◌≡◌, ◌+◌, ◌≤◌, ◌<◌, ◌↔◌, ℕ, Bool, true, false, IsTrue, Some, ap, List, [], ◌∷◌, length, refl, sym, ◌∙◌, subst, arith, add-one}
-use Prim.Native.Nat.{suc}
+use Rattle.std.proofs.Common.{◌≡◌, ◌+◌, ◌≤◌, ◌<◌, ◌↔◌, ℕ, Bool, true, false, IsTrue, Some, ap, List, [], ◌∷◌, length, refl, sym, ◌∙◌, subst, add-one}
 use Rattle.sb_text.specs.declared.statement.Statement.{Statement}
 use Rattle.spelling.specs.Lexemes.{MaybeEnded, statements_in}
-use Rattle.stars_core.specs.declared.refusal.TextKind.TheVariants.{Rules, Catalogue, Query}
+use Rattle.stars_core.specs.declared.refusal.TextKind.TheVariants.{Rules}
 use Rattle.stars_core.specs.TinyText.{tiny_text, tiny_statements}
 use Rattle.star_model.specs.declared.catalogue.Catalogue.{Catalogue as CatalogueTree}
 use Rattle.star_model.specs.declared.catalogue.SiteDef.{SiteDef}

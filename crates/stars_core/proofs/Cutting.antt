@@ -1,5 +1,5 @@
 -- A text is cut into its statements.
-use Rattle.std.proofs.Common.{◌≡◌, ℕ, List, [], ◌∷◌, ◌<◌, ◌≤◌, length, map, None, refl, ap, sym, ◌∙◌, arith}
+use Rattle.std.proofs.Common.{◌≡◌, ℕ, List, [], ◌∷◌, ◌≤◌, length, map, refl, ap, sym, ◌∙◌, arith}
 use Rattle.std.specs.List.{All}
 use Rattle.std.proofs.lemmas.List.Elements.{All-tail}
 use Rattle.sb_text.specs.Refusal.{AreTokens}
@@ -11,7 +11,6 @@ use Rattle.sb_text.specs.declared.statement.Statement.{Statement}
 use Rattle.std.proofs.lemmas.List.{length-map}
 use Rattle.sb_text.proofs.Laws.{tokens-parts, length-parts, length-lexed}
 use Rattle.spelling.specs.Lexemes.{Every, MaybeEnded, lexemes_of, statements_in}
-use Rattle.spelling.specs.Cursors.{AreTokensOf}
 use Rattle.stars_core.specs.Cut.{said_of, said_by, IsOf, IsCut}
 
 every_of : {A : Type 0} (P : A → Type 0) (xs : List A) → All P xs → Every P xs

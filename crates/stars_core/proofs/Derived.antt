@@ -20,7 +20,7 @@ use Rattle.stars_core.specs.Built.{Given}
 use Rattle.stars_core.specs.Faults.{Stops, PassAll}
 use Rattle.stars_core.specs.Plan.{Says, PlanText, three}
 use Rattle.stars_core.specs.Shelves.{HeldAs, RefusedAt, PlanAnswered, Puts}
-use Rattle.stars_core.specs.Answers.{OfCommand, Answered, Complete, RefusedExactly, StopTold, PlanTold, LinePut}
+use Rattle.stars_core.specs.Answers.{OfCommand, Answered, Complete, RefusedExactly, StopTold, LinePut}
 use Rattle.stars_core.proofs.Says.{one_reading}
 use Rattle.stars_core.proofs.FaultLaws.{one_stop, stopped_passes}
 

@@ -1,5 +1,5 @@
 -- Which fault a text has.
-use Rattle.std.proofs.Common.{subst, ◌≡◌, ◌<◌, ◌≤◌, ◌++◌, ℕ, List, [], ◌∷◌, length, None, Some, Err, refl, ap, sym, ◌∙◌, inl, inr, arith, zero, suc}
+use Rattle.std.proofs.Common.{subst, ◌≡◌, ◌<◌, ◌≤◌, ◌++◌, ℕ, List, [], ◌∷◌, length, None, Some, refl, ap, sym, ◌∙◌, inl, inr, arith, zero, suc}
 use Rattle.std.proofs.lemmas.List.{append-nil, append_assoc}
 use Rattle.sb_text.specs.Refusal.{fault_of}
 use Rattle.sb_text.specs.declared.token.TextFault.TheVariants as text

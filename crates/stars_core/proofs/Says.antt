@@ -1,29 +1,28 @@
 -- What texts that have a reader say.
-use Rattle.std.proofs.Common.{◌≡◌, ◌≤◌, ℕ, List, [], ◌∷◌, map, length, Option, Some, None, refl, ap, sym, ◌∙◌, subst, arith}
+use Rattle.std.proofs.Common.{◌≡◌, ℕ, List, [], ◌∷◌, length, Option, Some, None, refl, ap, sym, ◌∙◌, subst, arith}
 use Rattle.std.specs.Prelude.{slice_get}
 use Rattle.sb_text.specs.Tokens.{lexed}
 use Rattle.sb_text.specs.Statements.{parts}
 use Rattle.sb_text.specs.Depth.{first_too_deep}
-use Rattle.sb_text.specs.Refusal.{fault_of, first_fault}
+use Rattle.sb_text.specs.Refusal.{first_fault}
 use Rattle.star_model.specs.WellFormed.{WellFormedQuery}
 use Rattle.star_model.specs.declared.catalogue.Catalogue.{Catalogue as CatalogueTree}
-use Rattle.star_model.specs.declared.catalogue.SiteDef.{SiteDef}
 use Rattle.star_model.specs.declared.catalogue.ColumnDef.{ColumnDef}
 use Rattle.star_model.specs.declared.query.Query.{Query as QueryTree}
 use Rattle.star_model.specs.declared.rules.RuleFile.{RuleFile}
-use Rattle.spelling.specs.Lexemes.{Lexeme, MaybeEnded, HasItem, Every, IsStatements, statements_in, ended}
+use Rattle.spelling.specs.Lexemes.{MaybeEnded, HasItem, Every, IsStatements, statements_in}
 use Rattle.spelling.specs.Layout.{IsLexeme}
 use Rattle.spelling.specs.Rules.{SpellsRules}
-use Rattle.spelling.specs.Catalogues.{TablePart, Site, Table, catalogue_lexemes, table_from, SpellsCatalogue}
+use Rattle.spelling.specs.Catalogues.{Site, Table, catalogue_lexemes, table_from, SpellsCatalogue}
 use Rattle.spelling.specs.Queries.{only_column, query_lexemes, SpellsQuery}
-use Rattle.spelling.specs.Tiny.{tiny_lexemes, tiny_rules}
+use Rattle.spelling.specs.Tiny.{tiny_rules}
 use Rattle.spelling.proofs.Laws.{formed_statements, tiny_is_spelled, one_table, one_column, one_rule_file, one_catalogue, one_query}
 use Rattle.heap_plan.specs.Small.{small_catalogue, small_query, IsSmall, KeepLimits}
 use Rattle.heap_plan.proofs.Laws.{tiny_accepted, small_formed}
 use Rattle.stars_core.specs.TinyText.{tiny_statements}
 use Rattle.stars_core.specs.Built.{HasTable, SelectsFrom}
 use Rattle.stars_core.specs.Small.{IsSmallCatalogue}
-use Rattle.stars_core.specs.Judging.{HasTokens, CatalogueRead, QueryRead, RulesPass, CataloguePasses, QueryPasses}
+use Rattle.stars_core.specs.Judging.{HasTokens, RulesPass, CataloguePasses, QueryPasses}
 use Rattle.stars_core.specs.Plan.{Says}
 
 no_stop : (stop deep : Option ℕ) → first_fault stop deep ≡ None → stop ≡ None

@@ -12,7 +12,7 @@ use Rattle.star_model.specs.declared.catalogue.ColType.TheVariants as type
 use Rattle.star_model.specs.Vectors.{same_numbers}
 use Rattle.spelling.specs.Lexemes.{MaybeEnded, ended, right_bracket, Lexeme, Word, Number, Text, Symbol}
 use Rattle.spelling.specs.Catalogues.{TablePart, Site, Table, catalogue_lexemes, column_lexemes, type_word}
-use Rattle.spelling.specs.Reading.{Reader, ◌>>=◌, ◌>>◌, pure, the_word, the_symbol, a_word, a_number, a_text}
+use Rattle.spelling.specs.Reading.{Reader, ◌>>=◌, ◌>>◌, the_word, the_symbol, a_word, a_number, a_text}
 use Rattle.spelling.specs.Queries.{only_column, query_lexemes, IsFree}
 use Rattle.spelling.proofs.Laws.{same_are, same_self, the_word_reads, the_symbol_reads, a_word_reads, a_number_reads, a_text_reads}
 use Rattle.stars_core.specs.ThinReading.{only, whole, whole_at, site_at, column_at, table_at, selection_at, type_named, given}

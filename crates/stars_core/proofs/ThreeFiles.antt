@@ -1,13 +1,12 @@
 -- Three files that are fetched and judged one after the other.
-use Rattle.std.proofs.Common.{◌≡◌, ℕ, List, [], ◌∷◌, Ok, Err, Vec, string_bytes}
+use Rattle.std.proofs.Common.{ℕ, List, [], ◌∷◌, Ok, Vec}
 use Rattle.std.specs.declared.alloc.Global.{Global}
-use Rattle.sb_outside.specs.Shelf.{ShelfState, Goes, GoesBy}
+use Rattle.sb_outside.specs.Shelf.{ShelfState, Goes}
 use Rattle.star_model.specs.declared.catalogue.Catalogue.{Catalogue as CatalogueTree}
 use Rattle.star_model.specs.declared.query.Query.{Query as QueryTree}
 use Rattle.stars_core.specs.declared.refusal.TextKind.TheVariants.{Rules, Catalogue, Query}
 use Rattle.stars_core.specs.declared.refusal.Refusal.{Refusal}
-use Rattle.stars_core.specs.CommandLine.{Request, three_requests}
-use Rattle.stars_core.specs.Built.{Given}
+use Rattle.stars_core.specs.CommandLine.{three_requests}
 use Rattle.stars_core.specs.Faults.{Stops}
 use Rattle.stars_core.specs.Judging.{Refuses, RulesPass, CataloguePasses, QueryPasses, StopsAlways, StopsOver}
 use Rattle.stars_core.specs.Plan.{three}

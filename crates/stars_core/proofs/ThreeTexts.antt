@@ -1,5 +1,5 @@
 -- Three texts that are judged one after the other.
-use Rattle.std.proofs.Common.{◌≡◌, ℕ, List, [], ◌∷◌, Err, string_bytes, subst, sym}
+use Rattle.std.proofs.Common.{ℕ, List, [], ◌∷◌}
 use Rattle.star_model.specs.declared.catalogue.Catalogue.{Catalogue as CatalogueTree}
 use Rattle.star_model.specs.declared.query.Query.{Query as QueryTree}
 use Rattle.stars_core.specs.declared.refusal.TextKind.{TextKind}

@@ -1,5 +1,5 @@
 -- The tiny rules, read by the token rules.
-use Rattle.std.proofs.Common.{◌≡◌, ℕ, None, refl, length}
+use Rattle.std.proofs.Common.{◌≡◌, None, refl, length}
 use Rattle.sb_text.specs.Refusal.{fault_of}
 use Rattle.sb_text.specs.Tokens.{lexed, lexed_after}
 use Rattle.spelling.specs.Lexemes.{statements_in}

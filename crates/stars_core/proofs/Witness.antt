@@ -6,7 +6,6 @@ use Rattle.std.specs.List.{concat}
 use Rattle.std.proofs.lemmas.List.{append-nil}
 use Rattle.std.proofs.lemmas.Str.{IsUtf8-from_ascii}
 use Rattle.sb_text.specs.Tokens.{lexed, lexed_after}
-use Rattle.sb_text.specs.Refusal.{fault_of}
 use Rattle.sb_outside.specs.Shelf.{Files, ShelfState}
 use Rattle.sb_outside.specs.Sink.{SinkState, Adds}
 use Rattle.star_model.specs.declared.catalogue.Catalogue.{Catalogue as CatalogueTree}

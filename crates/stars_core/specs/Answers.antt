@@ -1,5 +1,5 @@
 -- The answers of the top call, with the cause of each.
-use Rattle.std.specs.Prelude.{◌≡◌, ◌⊎◌, ◌≤◌, ℕ, List, [], length, take, slice_get, Option, None, Some, IsSomeAnd, IsSome}
+use Rattle.std.specs.Prelude.{◌≡◌, ◌⊎◌, ℕ, List, [], length, take, slice_get, Option, None, Some, IsSomeAnd, IsSome}
 use Rattle.std.specs.List.{concat}
 use Rattle.sb_outside.specs.Counts.{Rose, RoseAtMost}
 use Rattle.sb_outside.specs.Shelf.{Files, ShelfState, NoFault}

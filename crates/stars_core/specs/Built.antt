@@ -1,6 +1,6 @@
 -- The texts that have a reader: the tiny rules, a catalogue of one site and one table of one column at it, and the query
 -- that selects this column.
-use Rattle.std.specs.Prelude.{◌≡◌, ◌<◌, ◌≤◌, ℕ, List, [], ◌∷◌, length, slice_get, Option, Some, None, IsUtf8}
+use Rattle.std.specs.Prelude.{◌≡◌, ◌<◌, ◌≤◌, ℕ, List, [], ◌∷◌, length, slice_get, Some, IsUtf8}
 use Prim.Native.Nat.{zero, suc}
 use Rattle.star_model.specs.Numbers.{top}
 use Rattle.star_model.specs.declared.catalogue.SiteDef.{SiteDef}

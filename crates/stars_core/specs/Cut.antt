@@ -1,12 +1,10 @@
 -- What the statements of a source say.
-use Rattle.std.specs.Prelude.{◌≡◌, ◌↔◌, ◌≤◌, ℕ, Bool, IsTrue, List, [], ◌∷◌, length, map, Option, Some, None, MatchOption}
-use Rattle.sb_text.specs.Refusal.{fault_of}
+use Rattle.std.specs.Prelude.{◌≡◌, ◌↔◌, ◌≤◌, ℕ, Bool, IsTrue, List, length, map, Option, Some, None, MatchOption}
 use Rattle.sb_text.specs.declared.statement.Statement.{Statement}
 use Rattle.spelling.specs.Lexemes.{MaybeEnded, Every, lexemes_of, statements_in}
 use Rattle.spelling.specs.Cursors.{AreTokensOf}
 use Rattle.star_model.specs.declared.catalogue.Catalogue.{Catalogue}
 use Rattle.star_model.specs.declared.catalogue.SiteDef.{SiteDef}
-use Rattle.star_model.specs.declared.catalogue.ColumnDef.{ColumnDef}
 use Rattle.spelling.specs.Catalogues.{TablePart}
 use Rattle.heap_plan.specs.Small.{small_catalogue}
 use Rattle.stars_core.specs.Built.{Given, IsBuilt, IsUnbuiltAt, SelectsFrom}

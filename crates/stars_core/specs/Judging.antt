@@ -16,7 +16,7 @@ use Rattle.stars_core.specs.TinyText.{tiny_statements}
 use Rattle.heap_plan.specs.Small.{small_catalogue}
 use Rattle.stars_core.specs.Small.{IsSelection}
 use Rattle.stars_core.specs.Built.{Given, HasTable, SelectsFrom, IsUnbuiltAt}
-use Rattle.stars_core.specs.Faults.{Kind, TooLong, Lexical, TooDeep, HasFault, First, Stops}
+use Rattle.stars_core.specs.Faults.{TooLong, Lexical, TooDeep, HasFault, First, Stops}
 
 -- a refusal of a text of this kind, whose line is as P says, or want of memory
 abbrev pub Refuses : TextKind → (List ℕ → Type 0) → Refusal → Type 0

@@ -1,7 +1,7 @@
 -- What a command found on its shelf.
 use Rattle.std.specs.Prelude.{◌≡◌, ◌≤◌, ◌+◌, ◌<◌, ℕ, false, List, [], ◌∷◌, take, slice_get, length, Option, None, Some, Result, Ok, Err, Vec, string_bytes}
 use Rattle.std.specs.declared.alloc.Global.{Global}
-use Rattle.sb_outside.specs.Counts.{RoseBy, RoseAtMost}
+use Rattle.sb_outside.specs.Counts.{RoseBy}
 use Rattle.sb_outside.specs.Shelf.{Files, ShelfState, GoesBy, FailsAt, NoFault, TellsBytes, TellsMore}
 use Rattle.stars_core.specs.declared.refusal.TextKind.{TextKind}
 use Rattle.stars_core.specs.declared.refusal.Refusal.{Refusal}

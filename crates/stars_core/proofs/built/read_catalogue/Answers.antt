@@ -2,7 +2,7 @@ use Rattle.std.proofs.Common.{arith}
 use Rattle.std.proofs.lemmas.List.{length-map}
 use Rattle.stars_core.specs.Cut.{said_of}
 use Rattle.stars_core.specs.ThinReading.{site_of, table_of}
-use Rattle.stars_core.proofs.BuiltLaws.{site_unbuilt, table_unbuilt, further_unbuilt, catalogue_read}
+use Rattle.stars_core.proofs.BuiltLaws.{table_unbuilt, catalogue_read}
 use Rattle.stars_core.proofs.built.read_catalogue.Goals as goal
 
 pub returns-in_default-table : goal.returns-in_default-table

@@ -1,7 +1,6 @@
-use Rattle.std.proofs.Common.{◌≡◌, ℕ, List, None, Some, Option, arith, sym, ◌∙◌}
-use Rattle.sb_text.specs.Refusal.{fault_of, IsFault}
+use Rattle.std.proofs.Common.{◌≡◌, None, Some, arith, sym, ◌∙◌}
+use Rattle.sb_text.specs.Refusal.{fault_of}
 use Rattle.sb_text.specs.declared.token.TextFault.{TextFault}
-use Rattle.sb_text.specs.declared.token.TextFault.TheVariants.{Lexical, TooDeep, Memory}
 use Rattle.stars_core.specs.TinyText.{tiny_text}
 use Rattle.stars_core.proofs.TinyLaws.{tiny_accepted, tiny_length}
 use Rattle.stars_core.proofs.built.tiny_tokens.Goals as goal

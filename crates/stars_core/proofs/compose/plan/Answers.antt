@@ -1,4 +1,3 @@
-use Rattle.std.proofs.Common.{refl}
 use Rattle.std.proofs.lemmas.Result.{err_from_is_err_and}
 use Rattle.spelling.specs.Tiny.{tiny_rules}
 use Rattle.stars_core.proofs.Says.{is_small, says}

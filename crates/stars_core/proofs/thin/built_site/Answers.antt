@@ -1,4 +1,4 @@
-use Rattle.std.proofs.Common.{◌∙◌, ap, sym}
+use Rattle.std.proofs.Common.{sym}
 use Rattle.stars_core.specs.ThinReading.{site_of}
 use Rattle.stars_core.proofs.ThinLaws.{no_site, unbuilt_site, site_from}
 use Rattle.stars_core.proofs.thin.built_site.Goals as goal

@@ -1,4 +1,4 @@
-use Rattle.std.proofs.Common.{◌∙◌, ap, sym}
+use Rattle.std.proofs.Common.{sym}
 use Rattle.stars_core.specs.ThinReading.{site_of, table_of}
 use Rattle.stars_core.proofs.ThinLaws.{no_table, unbuilt_table, has_table}
 use Rattle.stars_core.proofs.thin.built_table.Goals as goal
