@@ -65,25 +65,17 @@ fn tells_what_it_cannot_read(rt: HostRuntime) -> Result<(), Fail> {
 #[test]
 fn reads_files_in_order(rt: HostRuntime) -> Result<(), Fail> {
     let alloc = rt.alloc();
-    let unbuilt = "statement 1 is not built yet";
     let rows = [
-        (
-            "plan r r r",
-            "CatalogueRefused, calls 2\nout: \nerr: catalogue",
-        ),
-        (
-            "plan c none none",
-            "RulesRefused, calls 1\nout: \nerr: rules",
-        ),
-        (
-            "plan r q none",
-            "CatalogueRefused, calls 2\nout: \nerr: catalogue",
-        ),
-        ("plan r c c", "QueryRefused, calls 3\nout: \nerr: query"),
+        ("plan r r r", "CatalogueRefused, calls 2", "catalogue"),
+        ("plan c none none", "RulesRefused, calls 1", "rules"),
+        ("plan r q none", "CatalogueRefused, calls 2", "catalogue"),
+        ("plan r c c", "QueryRefused, calls 3", "query"),
     ];
-    for (line, front) in rows {
+    for (line, end, kind) in rows {
         let told = run_tiny(alloc, line, NO_FAULTS)?;
-        let wanted = format!(in alloc; "{front}: {unbuilt}\n")?;
+        let wanted = format!(in alloc;
+            "{end}\nout: \nerr: {kind}: statement 1 is not built yet\n"
+        )?;
         assert_eq!(rt; told.as_str(), wanted.as_str(), "{line}");
     }
     Ok(())
@@ -97,15 +89,12 @@ fn fails_at_each_byte(rt: HostRuntime) -> Result<(), Fail> {
     for room in 0..text.len() {
         let taken = text.as_str().get(..room).ok_or("no such room")?;
         for (kept, line) in [(None, "cannot write\n"), (Some(0), ""), (Some(6), "cannot")] {
-            let told = run_tiny(
-                alloc,
-                "plan r c q",
-                Faults {
-                    call: 0,
-                    room,
-                    kept,
-                },
-            )?;
+            let faults = Faults {
+                room,
+                kept,
+                ..NO_FAULTS
+            };
+            let told = run_tiny(alloc, "plan r c q", faults)?;
             let wanted = format!(in alloc; "WriteFault, calls 3\nout: {taken}\nerr: {line}")?;
             assert_eq!(rt;
                 told.as_str(),
