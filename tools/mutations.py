@@ -318,9 +318,6 @@ CHANGES = {
     "plans::no_split": [
         ("Expected", "a goal of several without a split", "may_split s None = nat_eq (size s) 1", "may_split s None = true"),
     ],
-    "plans::split_of_one": [
-        ("Expected", "a goal of one with a split", "may_split s (Some p) = not (nat_eq (size s) 1) && ", "may_split s (Some p) = "),
-    ],
     "plans::goal_without_pushed": [
         ("Expected", "another goal than is asked", "nat_eq g.tables s && nat_eq g.pushed j && may_split s split", "nat_eq g.tables s && may_split s split"),
     ],

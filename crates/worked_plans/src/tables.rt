@@ -1,6 +1,6 @@
 // What the definitions say of records of tables, of choices of rows, and of what is well formed.
 ghost use Rattle.std.specs.Prelude.{◌≡◌, ◌++◌, ◌∷◌, [], true, false, codes, replicate};
-ghost use Rattle.star_model.specs.Answers.{is_earlier, is_in_range, values_of_columns};
+ghost use Rattle.star_model.specs.Answers.{is_earlier, is_in_range, stands_before, values_of_columns};
 ghost use Rattle.star_model.specs.Numbers.{top};
 ghost use Rattle.star_model.specs.Vectors.{same_numbers};
 ghost use Rattle.star_model.specs.WellFormed.{differ, is_number};
@@ -63,6 +63,8 @@ pub fn choices_of_rows()
     ensures values { values_of_columns query.pairs three_rows query.pairs.select (pair 0 2) ≡ integer 1 ∷ integer 2 ∷ [] }
     ensures earlier { is_earlier query.pairs three_rows query.pairs.order (pair 0 2) (pair 2 2) ≡ true }
     ensures later { is_earlier query.pairs three_rows query.pairs.order (pair 2 2) (pair 0 2) ≡ false }
+    ensures second_column { stands_before query.pairs three_rows (integer 1 ∷ integer 2 ∷ []) (integer 1 ∷ integer 3 ∷ []) ≡ true }
+    ensures first_column { stands_before query.pairs three_rows (integer 2 ∷ integer 1 ∷ []) (integer 1 ∷ integer 3 ∷ []) ≡ false }
     ensures tied { is_earlier query.pairs three_rows query.pairs.order (pair 0 2) (pair 1 1) ≡ false }
 {}
 
