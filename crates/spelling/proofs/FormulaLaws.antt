@@ -1,5 +1,5 @@
 -- The fewest brackets spell a formula.
-use Rattle.std.proofs.Common.{◌≡◌, List, [], ◌∷◌, ◌++◌, map, refl, sym, subst}
+use Rattle.std.proofs.Common.{◌≡◌, ◌↔◌, ◌+◌, List, [], ◌∷◌, ◌++◌, length, map, Some, refl, sym, subst}
 use Rattle.star_model.specs.declared.formula.Formula.{Formula}
 use Rattle.star_model.specs.declared.formula.Test.TheVariants as test
 use Rattle.star_model.specs.declared.formula.Var.TheVariants as var
@@ -9,9 +9,11 @@ use Rattle.spelling.specs.Lexemes.{Lexeme}
 use Rattle.spelling.specs.FormulaGrammar as g
 use Rattle.spelling.specs.FormulaGrammar.{Rank, Spells, Whole}
 use Rattle.spelling.specs.FormulaCanonical.{words_of}
+use Rattle.spelling.specs.FormulaReading.{whole_at}
 use Rattle.spelling.specs.Formulas.{formula_word, formula_lexeme, formula_lexemes, SpellsFormula}
 use Rattle.spelling.proofs.FormulaCanon.{canonical_spells}
 use Rattle.spelling.proofs.FormulaComplete as complete
+use Rattle.spelling.proofs.FormulaSound.{spelled}
 
 -- a word that can stand in a formula is what its lexeme stands for
 Stands : FormulaWord → Type 0
@@ -92,3 +94,6 @@ canonical_formula x = subst (λ ws. Spells Whole ws x) (sym (back (words_of x) (
 
 pub one_formula : (lexemes : List Lexeme) (x y : Formula) → SpellsFormula lexemes x → SpellsFormula lexemes y → x ≡ y
 one_formula lexemes x y h k = complete.one (map formula_word lexemes) x y h k
+
+pub formula_reads : (words : List FormulaWord) (x : Formula) → (whole_at (length words + 1) words ≡ Some (x, [])) ↔ Spells Whole words x
+formula_reads words x = (spelled (length words + 1) words x, complete.reads_all words x)

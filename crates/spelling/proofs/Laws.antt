@@ -1,6 +1,6 @@
 -- The laws that other crates may cite. Each is the clause of a function of the module `theorems`.
 pub use Rattle.spelling.proofs.Statements.{one_list, statements_of_tokens, same_self}
-pub use Rattle.spelling.proofs.WritingLaws.{ended-line, lines-layout, puts-none, puts-more, puts-append, lines-none, lines-more, lines-append, writing}
+pub use Rattle.spelling.proofs.WritingLaws.{written-spaced, ended-line, lines-layout, puts-none, puts-more, puts-append, lines-none, lines-more, lines-append, writing}
 pub use Rattle.spelling.proofs.LayoutLaws.{statements_of_layout}
 pub use Rattle.spelling.proofs.Formed.{formed_statements, layout_again}
 pub use Rattle.spelling.proofs.DerivationLaws.{one_derivation}
@@ -9,8 +9,9 @@ pub use Rattle.spelling.proofs.CatalogueWriting.{written_catalogue, written_cata
 pub use Rattle.spelling.proofs.CatalogueCanonical.{canonical_catalogue}
 pub use Rattle.spelling.proofs.DerivationWriting.{written_derivation, derivation_again}
 pub use Rattle.spelling.proofs.Commented.{layout_behind_comment, commented_derivation}
-pub use Rattle.spelling.proofs.QueryLaws.{one_query_statement, one_query}
-pub use Rattle.spelling.proofs.FormulaLaws.{one_formula, canonical_formula}
+pub use Rattle.spelling.proofs.QueryLaws.{one_query_statement, one_query, keeps_catalogue}
+pub use Rattle.spelling.proofs.FormulaLaws.{one_formula, canonical_formula, formula_reads}
+pub use Rattle.spelling.proofs.FormulaSizes.{few_nodes}
 pub use Rattle.spelling.proofs.SmallestTexts.{canonical_formula_def, tiny_is_spelled, tiny_keeps_counts, one_table, one_column}
 pub use Rattle.spelling.proofs.RuleLaws.{one_star, one_formula_def, one_rule_file}
 pub use Rattle.spelling.proofs.ReadingLaws.{same_are, the_word_reads, the_symbol_reads, a_word_reads, a_number_reads, a_text_reads, then_reads}

@@ -15,6 +15,7 @@ mod Readers
 mod ValueReading
 mod ConditionLaws
 mod FormulaLaws
+mod FormulaSizes
 mod RuleLaws
 mod SmallestTexts
 mod Written

@@ -1,12 +1,14 @@
 -- One text spells one query.
 use Rattle.std.proofs.Common.{◌≡◌, ℕ, true, false, List, [], ◌∷◌, ◌++◌, map, Option, Some, None, codes, refl, sym, ap, ◌∙◌, subst}
+use Rattle.std.specs.Option.{option_map_or}
+use Rattle.std.proofs.lemmas.Option.{option_and_then_some}
 use Rattle.star_model.specs.declared.catalogue.Catalogue.{Catalogue}
 use Rattle.star_model.specs.declared.query.Query.{Query}
 use Rattle.star_model.specs.declared.query.Cmp.{Cmp}
 use Rattle.star_model.specs.declared.query.Cmp.TheVariants as cmp
 use Rattle.spelling.specs.Lexemes.{Lexeme, Word, Symbol, comma, joined_by}
-use Rattle.spelling.specs.Names.{is_among, found_in}
-use Rattle.spelling.specs.Queries.{ColumnName, Item, Whole, Negative, Quoted, Side, OfColumn, OfConstant, Comparison, QueryStatement, column_lexemes, own_name, IsFreeIfAny, item_lexemes, cmp_lexeme, side_lexemes, comparison_lexemes, columns_lexemes, where_lexemes, order_lexemes, at_lexemes, query_lexemes, reserved_in_queries, IsFree, HasFreeNames, IsQueryStatement, SpellsQueryStatement, SpellsQuery, query_of}
+use Rattle.spelling.specs.Names.{is_among, found_in, all_of}
+use Rattle.spelling.specs.Queries.{ColumnName, Item, Whole, Negative, Quoted, Side, OfColumn, OfConstant, Comparison, QueryStatement, column_lexemes, own_name, IsFreeIfAny, item_lexemes, cmp_lexeme, side_lexemes, comparison_lexemes, columns_lexemes, where_lexemes, order_lexemes, at_lexemes, query_lexemes, reserved_in_queries, IsFree, HasFreeNames, IsQueryStatement, SpellsQueryStatement, SpellsQuery, query_of, quantifier_of, columns_of, predicate_of, site_of}
 use Rattle.spelling.proofs.Statements.{one_list, series, anything, differ, heads}
 
 same_column : (c d : ColumnName) (r s : List Lexeme) → Unit {0} → Unit {0} → Unit {0} → Unit {0} → column_lexemes c ++ r ≡ column_lexemes d ++ s → (c ≡ d) × (r ≡ s)
@@ -169,3 +171,15 @@ one_query catalogue text a b p q =
     some_same a b (sym p.means ∙ ap (query_of catalogue) one ∙ q.means) where
       firsts : (x y : List Lexeme) → x ∷ [] ≡ y ∷ [] → x ≡ y
       firsts x y e = cc
+
+-- a query is over the catalogue that it was read against
+pub keeps_catalogue : (catalogue : Catalogue) (text : List ℕ) (query : Query) → SpellsQuery catalogue text query → query.catalogue ≡ catalogue
+unfolding query_of
+keeps_catalogue catalogue text query spells =
+    let s = spells.statement in
+    option_and_then_some _ (all_of (map (quantifier_of catalogue) s.items)) query spells.means (λ quantifiers _ after_quantifiers.
+    option_and_then_some _ (columns_of catalogue quantifiers s.select) query after_quantifiers (λ select _ after_select.
+    option_and_then_some _ (all_of (map (predicate_of catalogue quantifiers) s.comparisons)) query after_select (λ predicates _ after_predicates.
+    option_and_then_some _ (columns_of catalogue quantifiers s.order) query after_predicates (λ order _ after_order.
+    option_and_then_some _ (site_of catalogue s.site) query after_order (λ site _ is.
+    sym (ap (λ (found : Option Query). option_map_or (λ q. q.catalogue) found catalogue) is))))))

@@ -88,6 +88,9 @@ behind-semicolon e (x ∷ xs) =
 
 -- ---- statements
 
+pub written-spaced : (text : List ℕ) (lexemes : List Lexeme) → (puts (whole text) lexemes).text ≡ text ++ spaced lexemes
+written-spaced text lexemes = text-puts (whole text) lexemes ∙ ap (λ bytes. text ++ bytes) (open-spaced lexemes)
+
 pub ended-line : (text : List ℕ) (statement : List Lexeme) → ended (puts (whole text) statement) ≡ whole (text ++ line statement)
 unfolding ended
 ended-line text statement = ap whole (

@@ -7,6 +7,7 @@ use Rattle.star_model.specs.declared.formula.Var.TheVariants as var
 use Rattle.spelling.specs.declared.words.FormulaWord.{FormulaWord}
 use Rattle.spelling.specs.declared.words.FormulaWord.TheVariants as w
 use Rattle.spelling.specs.Lexemes.{Lexeme, Word, Number, Text, Symbol}
+use Rattle.spelling.specs.Layout.{spaced}
 use Rattle.spelling.specs.Names.{found_in}
 use Rattle.spelling.specs.FormulaGrammar.{Spells, Whole}
 use Rattle.spelling.specs.FormulaCanonical.{words_of}
@@ -84,3 +85,7 @@ formula_lexeme w.Other = Text []
 -- the lexemes with the fewest brackets
 abbrev pub formula_lexemes : Formula → List Lexeme
 formula_lexemes formula = map formula_lexeme (words_of formula)
+
+-- the canonical text, as it stands in a statement
+abbrev pub canonical_formula : Formula → List ℕ
+canonical_formula formula = spaced (formula_lexemes formula)

@@ -15,3 +15,8 @@ pub mod Values
 pub mod Rules
 pub mod Tiny
 pub mod Writing
+pub mod Firsts
+pub mod FirstsCases
+pub mod Syntax
+pub mod Limits
+pub mod LimitsCases

@@ -1,9 +1,5 @@
 -- Reading from the front of a list of lexemes.
-use Rattle.std.specs.Prelude.{◌≡◌, ◌≤◌, ◌<◌, ℕ, List, [], ◌∷◌, length, Option, Some, None, option_and_then, if◌then◌else◌}
-use Rattle.std.specs.Str.Parse.{IsNumeral}
-use Rattle.sb_text.specs.declared.token.Token.{Token}
-use Rattle.sb_text.specs.declared.token.TokenKind.{TokenKind}
-use Rattle.sb_text.specs.declared.token.TokenKind.TheVariants as kind
+use Rattle.std.specs.Prelude.{◌≡◌, ℕ, List, [], ◌∷◌, Option, Some, None, option_and_then, if◌then◌else◌}
 use Rattle.star_model.specs.Vectors.{same_numbers}
 use Rattle.spelling.specs.Lexemes.{Lexeme, Word, Number, Text, Symbol}
 

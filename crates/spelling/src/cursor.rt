@@ -1,5 +1,5 @@
 // Reading the lexemes of a statement from the front.
-ghost use Rattle.std.specs.Prelude.{◌≡◌, option_map, option_copied, ℕ, IsTrue, ◌↔◌, [], ◌<◌, length, drop, IfOk};
+ghost use Rattle.std.specs.Prelude.{◌≡◌, option_map, option_copied, ℕ, IsTrue, ◌↔◌, [], ◌<◌, length, drop, IfNone, IfOk};
 ghost use Rattle.spelling.specs.Lexemes.{undoubled, lexeme_of, lexemes_of};
 ghost use Rattle.spelling.specs.Cursors.{AreTokensOf, IsMachineNumber};
 ghost use Rattle.std.specs.Str.Parse.{digits_value};
@@ -101,9 +101,10 @@ impl<'a> Cursor<'a> {
         self.left.is_empty()
     }
 
-    /// Passes this word.
+    /// Passes this word. Where it isn't next, nothing is passed.
     pub fn the_word(&mut self, wanted: &[u8]) -> Option<()>
-        ensures { Reads (the_word wanted.now self.old) result self.new }
+        ensures reads { Reads (the_word wanted.now self.old) result self.new }
+        ensures stays { IfNone result (self.new ≡ self.old) }
     {
         match self.left {
             [token, rest @ ..] if token.kind == TokenKind::Word => {
@@ -118,9 +119,10 @@ impl<'a> Cursor<'a> {
         }
     }
 
-    /// Passes this symbol.
+    /// Passes this symbol. Where it isn't next, nothing is passed.
     pub fn the_symbol(&mut self, wanted: &[u8]) -> Option<()>
-        ensures { Reads (the_symbol wanted.now self.old) result self.new }
+        ensures reads { Reads (the_symbol wanted.now self.old) result self.new }
+        ensures stays { IfNone result (self.new ≡ self.old) }
     {
         match self.left {
             [token, rest @ ..] if token.kind == TokenKind::Symbol => {
@@ -135,9 +137,10 @@ impl<'a> Cursor<'a> {
         }
     }
 
-    /// The next word.
+    /// Passes the next word. Where none is next, nothing is passed.
     pub fn word(&mut self) -> Option<&'a [u8]>
-        ensures { Reads (a_word self.old) (option_copied result) self.new }
+        ensures reads { Reads (a_word self.old) (option_copied result) self.new }
+        ensures stays { IfNone result (self.new ≡ self.old) }
     {
         match self.left {
             [token, rest @ ..] if token.kind == TokenKind::Word => {
@@ -149,9 +152,22 @@ impl<'a> Cursor<'a> {
         }
     }
 
-    /// The next number.
+    /// The next word, which isn't passed.
+    pub fn next_word(&self) -> Option<&'a [u8]>
+        ensures { option_copied result ≡ option_map (λ found. found.0) (a_word self.now) }
+    {
+        match self.left {
+            [token, ..] if token.kind == TokenKind::Word => {
+                Some(&self.source[token.start as usize..token.end as usize])
+            }
+            _ => None,
+        }
+    }
+
+    /// Passes the next number. Where none is next, nothing is passed.
     pub fn number(&mut self) -> Option<u64>
-        ensures { Reads (a_number self.old) result self.new }
+        ensures reads { Reads (a_number self.old) result self.new }
+        ensures stays { IfNone result (self.new ≡ self.old) }
     {
         match self.left {
             [token, rest @ ..] if token.kind == TokenKind::Number => {
@@ -163,9 +179,10 @@ impl<'a> Cursor<'a> {
         }
     }
 
-    /// The next text, as it is written behind its first quote.
+    /// Passes the next text, which is as it is written behind its first quote. Where none is next, nothing is passed.
     pub fn text(&mut self) -> Option<&'a [u8]>
-        ensures { Reads (a_text self.old) (option_map undoubled (option_copied result)) self.new }
+        ensures reads { Reads (a_text self.old) (option_map undoubled (option_copied result)) self.new }
+        ensures stays { IfNone result (self.new ≡ self.old) }
     {
         match self.left {
             [token, rest @ ..] if token.kind == TokenKind::Text => {

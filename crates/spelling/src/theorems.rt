@@ -1,13 +1,13 @@
 // The laws of the definitions, each the clause of a function that does nothing.
 
-ghost use Rattle.std.specs.Prelude.{◌≡◌, ◌↔◌, ℕ, List, [], ◌∷◌, ◌++◌, map, true, None, Some};
+ghost use Rattle.std.specs.Prelude.{◌≡◌, ◌↔◌, ◌+◌, ◌≤◌, ℕ, List, [], ◌∷◌, ◌++◌, length, map, true, None, Some};
 ghost use Rattle.sb_text.specs.declared.token.Token.{Token};
 ghost use Rattle.std.specs.List.{AllPass};
 ghost use Rattle.sb_text.specs.Front.{in_comment};
 ghost use Rattle.sb_text.specs.Tokens.{lexed};
 ghost use Rattle.sb_text.specs.Statements.{parts};
 ghost use Rattle.spelling.specs.Lexemes.{Lexeme, Word, Number, Text, Symbol, IsStatements, lexemes_of, HasItem, Every};
-ghost use Rattle.spelling.specs.Layout.{line, layout, commented, IsLexeme};
+ghost use Rattle.spelling.specs.Layout.{spaced, line, layout, commented, IsLexeme};
 ghost use Rattle.spelling.specs.Reading.{the_word, the_symbol, a_word, a_number, a_text};
 ghost use Rattle.spelling.specs.Writing.{Written, whole, put, puts, ended, lines};
 ghost use Rattle.spelling.specs.Derivations as derivation;
@@ -16,10 +16,14 @@ ghost use Rattle.spelling.specs.Catalogues as catalogue;
 ghost use Rattle.spelling.specs.Rules as rule_file;
 ghost use Rattle.spelling.specs.Catalogues.{CatalogueStatement, catalogue_of, catalogue_statements, Site, Table, TablePart, table_from, catalogue_lexemes, SpellsCatalogueStatement, SpellsCatalogue};
 ghost use Rattle.spelling.specs.Queries.{QueryStatement, only_column, query_lexemes, IsFree, SpellsQueryStatement, SpellsQuery};
+ghost use Rattle.spelling.specs.declared.words.FormulaWord.{FormulaWord};
+ghost use Rattle.spelling.specs.FormulaGrammar.{Spells, Whole};
+ghost use Rattle.spelling.specs.FormulaReading.{whole_at};
 ghost use Rattle.spelling.specs.Formulas.{SpellsFormula, formula_lexemes};
 ghost use Rattle.spelling.specs.Rules.{SpellsStar, SpellsFormulaDef, formula_def_lexemes, rule_lexemes, SpellsRules, KeepsCounts};
 ghost use Rattle.spelling.specs.Tiny.{tiny_lexemes, tiny_rules};
 ghost use Rattle.star_model.specs.Vectors.{same_numbers};
+ghost use Rattle.star_model.specs.Monotone.{nodes};
 ghost use Rattle.star_model.specs.WellFormed.{WellFormedCatalogue, WellFormedQuery};
 ghost use Rattle.star_model.specs.Derivations.{IsRoot};
 ghost use Rattle.star_model.specs.declared.plans.Props.{Props};
@@ -46,6 +50,7 @@ pub fn statements_come_from_tokens()
 
 /// Statements that are written one after the other, lexeme by lexeme, stand in canonical layout.
 pub fn what_is_written_is_in_layout()
+    ensures lexemes { (text : List ℕ) (lexemes : List Lexeme) → (puts (whole text) lexemes).text ≡ text ++ spaced lexemes }
     ensures statement { (text : List ℕ) (statement : List Lexeme) → ended (puts (whole text) statement) ≡ whole (text ++ line statement) }
     ensures text { (text : List ℕ) (statements : List (List Lexeme)) → lines (whole text) statements ≡ whole (text ++ layout statements) }
 {}
@@ -94,9 +99,24 @@ pub fn one_query()
     ensures statement { (lexemes : List Lexeme) (q r : QueryStatement) → SpellsQueryStatement lexemes q → SpellsQueryStatement lexemes r → q ≡ r }
 {}
 
+/// A query is over the catalogue that it was read against.
+pub fn queries_keep_their_catalogue()
+    ensures { (catalogue : Catalogue) (text : List ℕ) (query : Query) → SpellsQuery catalogue text query → query.catalogue ≡ catalogue }
+{}
+
 /// One list of lexemes spells at most one formula.
 pub fn one_formula()
     ensures { (lexemes : List Lexeme) (x y : Formula) → SpellsFormula lexemes x → SpellsFormula lexemes y → x ≡ y }
+{}
+
+/// What is read of all the words is the formula that they spell, and nothing else is read.
+pub fn formulas_are_read()
+    ensures { (words : List FormulaWord) (x : Formula) → (whole_at (length words + 1) words ≡ Some (x, [])) ↔ Spells Whole words x }
+{}
+
+/// A formula has no more nodes than the lexemes that spell it.
+pub fn formulas_have_few_nodes()
+    ensures { (lexemes : List Lexeme) (x : Formula) → SpellsFormula lexemes x → length (nodes x) ≤ length lexemes }
 {}
 
 /// What is written with the fewest brackets spells its formula, and the statement that defines it.

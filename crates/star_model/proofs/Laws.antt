@@ -1,8 +1,9 @@
 -- The laws that other crates may cite. Each is the clause of a function of the module `theorems`.
-use Rattle.std.proofs.Common.{◌≡◌, ℕ, ◌<◌, Bool, true, false, not, ◌||◌, refl, sym, ◌↔◌}
+use Rattle.std.proofs.Common.{◌≡◌, ℕ, true, sym, ◌↔◌}
 use Rattle.std.specs.Prelude.{Some}
 pub use Rattle.star_model.proofs.NumberLaws.{sum-cut, difference-cut, product-cut, quotient-cut, sum-le, difference-le, product-le, quotient-le, sum-exact, difference-exact, product-exact, quotient-exact, quotient_enough, quotient_least}
-pub use Rattle.star_model.proofs.SetLaws.{has-zero, has-union, has-meet, has-minus, has-single, has-set_of, has-above, same_set, union-lt, meet-lt, minus-lt, single-lt, set_of-lt}
+pub use Rattle.star_model.proofs.SetLaws.{has-zero, has-union, has-meet, has-minus, has-single, has-set_of, has-above, same_set, union-lt, meet-lt, minus-lt, single-lt, set_of-lt, within-members}
+pub use Rattle.star_model.proofs.ColumnLaws.{has_column-empty, has_column-with, has_column-union, has_column-where, within-columns, same_columns, empty_columns, union-where, with_column-where}
 pub use Rattle.star_model.proofs.SplitLaws.{split_once, split_only}
 pub use Rattle.star_model.proofs.MonotoneLaws.{monotone}
 pub use Rattle.star_model.proofs.OffendLaws.{passes_where}
@@ -11,10 +12,8 @@ pub use Rattle.star_model.proofs.ExchangeLaws.{operators_exchange}
 pub use Rattle.star_model.proofs.ChainLaws.{vector_card, chains_exchange, better_satisfies}
 pub use Rattle.star_model.proofs.KindLaws.{means}
 pub use Rattle.star_model.proofs.CostLaws.{formula_of-push}
-use Rattle.star_model.proofs.SetLaws.{within-has, has-within}
 use Rattle.star_model.proofs.InvalidLaws.{first}
 use Rattle.star_model.proofs.JudgeLaws.{judged, valid_from, valid_to, vector_from, vector_to, root_from, root_to}
-use Rattle.star_model.specs.Sets.{has, is_within}
 use Rattle.star_model.specs.Plans.{vector}
 use Rattle.star_model.specs.Costs.{costs_of}
 use Rattle.star_model.specs.Expected.{Expected, ForQuery}
@@ -26,21 +25,6 @@ use Rattle.star_model.specs.declared.plans.Props.{Props}
 use Rattle.star_model.specs.declared.plans.Plan.{Plan}
 use Rattle.star_model.specs.declared.rules.RuleFile.{RuleFile}
 use Rattle.star_model.specs.declared.derivations.Deriv.{Deriv}
-
--- each member of one is a member of the other
-pub within-members : (s t : ℕ) → (is_within s t ≡ true) ↔ ((n : ℕ) → n < 32 → has s n ≡ true → has t n ≡ true)
-within-members s t = (
-  (λ h n l k. then_so (has s n) (has t n) (within-has s t n l h) k),
-  (λ h. has-within s t (λ n l. so_then (has s n) (has t n) (h n l))),
-)
-  where
-    then_so : (b c : Bool) → (not b || c) ≡ true → b ≡ true → c ≡ true
-    then_so true c h k = h
-    then_so false c h k = cc
-
-    so_then : (b c : Bool) → (b ≡ true → c ≡ true) → (not b || c) ≡ true
-    so_then true c h = h refl
-    so_then false c h = refl
 
 -- ---- derivations
 

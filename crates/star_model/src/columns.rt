@@ -1,7 +1,8 @@
 // Sites, quantifiers and columns, by their positions from 0.
 
 ghost use Rattle.std.specs.Prelude.{◌≡◌, ◌<◌, ◌≤◌, [], ◌∷◌, ◌++◌, length, IsOk, ◌↔◌, OnOk, OnErr, IfErr, replicate};
-ghost use Rattle.star_model.specs.Columns.{has_column};
+ghost use Rattle.star_model.specs.Columns.{has_column, with_column, union_columns, is_columns_within};
+ghost use Rattle.star_model.specs.Sets.{is_within};
 
 use arrayvec::ArrayVec;
 use std::marker::Model;
@@ -127,4 +128,43 @@ impl ColSet {
             false
         }
     }
+
+    /// Adds the column.
+    pub fn insert(&mut self, col: Col)
+        requires quant { col.quant.0 < 12 }
+        requires column { col.column < 32 }
+        ensures { self.new ≡ with_column self.old col }
+    {
+        self.masks[col.quant.0 as usize] |= 1 << col.column;
+    }
+
+    /// The columns of both.
+    pub fn union(&self, other: &Self) -> Self
+        ensures { result ≡ union_columns self.now other.now }
+    {
+        let mut masks = [0; 12];
+        for (n, mask) in self.masks.iter().enumerate() {
+            masks[n] = mask | other.masks[n];
+        }
+        ColSet { masks }
+    }
+
+    /// Whether each of its columns is one of the other's.
+    pub fn within(&self, other: &Self) -> bool
+        ensures { result ≡ is_columns_within self.now other.now }
+    {
+        for (n, mask) in self.masks.iter().enumerate() {
+            if !is_part(*mask, other.masks[n]) {
+                return false;
+            }
+        }
+        true
+    }
+}
+
+#[tactic(auto, using(crate::proofs::SetLaws::within_rules))]
+fn is_part(mask: u32, whole: u32) -> bool
+    ensures { result ≡ is_within mask whole }
+{
+    mask & whole == mask
 }

@@ -3,6 +3,7 @@
 
 pub mod catalogue;
 pub mod columns;
+pub mod copies;
 pub mod costs;
 pub mod derivations;
 pub mod faults;

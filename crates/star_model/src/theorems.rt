@@ -1,12 +1,13 @@
 // The laws of the definitions, each the clause of a function that does nothing.
 
-ghost use Rattle.std.specs.Prelude.{◌≡◌, ℕ, ◌<◌, ◌≤◌, ◌+◌, ◌-◌, ◌*◌, ◌^◌, max, Bool, true, false, ◌&&◌, ◌||◌, not, nat_eq, ◌↔◌, List as Seq, [], ◌∷◌, ◌++◌, Some, None, if◌then◌else◌};
+ghost use Rattle.std.specs.Prelude.{◌≡◌, ℕ, ◌<◌, ◌≤◌, ◌+◌, ◌-◌, ◌*◌, ◌^◌, max, Bool, true, false, ◌&&◌, ◌||◌, not, nat_eq, ◌↔◌, List as Seq, [], ◌∷◌, ◌++◌, Some, None, if◌then◌else◌, replicate};
 ghost use Rattle.std.specs.List.{count_by};
 ghost use Rattle.star_model.specs.Numbers.{top, cut_sum, cut_difference, cut_product, cut_quotient, quotient_up};
 ghost use Rattle.star_model.specs.Sets.{has, set_of, single, union, meet, minus, is_within, splits, is_pair, IsSplit};
+ghost use Rattle.star_model.specs.Columns.{Columns, has_column, columns_where, union_columns, is_column_at, with_column, is_columns_within};
 ghost use Rattle.star_model.specs.Monotone.{passes, first_offending, IsMonotone};
 ghost use Rattle.star_model.specs.Costs.{formula_of, costs_of, same_flavour, same_which};
-ghost use Rattle.star_model.specs.Vectors.{is_better, satisfies};
+ghost use Rattle.star_model.specs.Vectors.{is_better, satisfies, same_column};
 ghost use Rattle.star_model.specs.Exchange.{HasCard, IsExchangeable, ChainsAreExchangeable};
 ghost use Rattle.star_model.specs.Kinds.{MeansItsKind};
 ghost use Rattle.star_model.specs.Meaning.{meaning};
@@ -15,6 +16,7 @@ ghost use Rattle.star_model.specs.Expected.{Expected};
 ghost use Rattle.star_model.specs.Derivations.{plan_of, is_valid, HasVector, IsRoot};
 ghost use Rattle.star_model.specs.Judging.{Vector, judge, judge_root, invalid_number};
 ghost use Rattle.star_model.specs.InvalidNodes.{first_invalid};
+ghost use Rattle.star_model.specs.declared.columns.Col.{Col};
 ghost use Rattle.star_model.specs.declared.costs.CostEntry.{CostEntry};
 ghost use Rattle.star_model.specs.declared.formula.Formula.{Formula};
 ghost use Rattle.star_model.specs.declared.query.Query.{Query};
@@ -79,6 +81,26 @@ pub fn sets_fit()
     ensures minus { (s t : ℕ) → s < 2 ^ 32 → minus s t < 2 ^ 32 }
     ensures single { (k : ℕ) → k < 32 → single k < 2 ^ 32 }
     ensures set_of { (p : ℕ → Bool) → set_of p < 2 ^ 32 }
+{}
+
+/// What is a column of a set that an operation gives.
+pub fn column_sets_go_by_columns()
+    ensures empty { (c : Col) → has_column (replicate 12 0) c ≡ false }
+    ensures insert { (s : Columns) (c d : Col) → d.quant.0 < 12 → d.column < 32 → has_column (with_column s c) d ≡ (has_column s d || same_column c d) }
+    ensures union { (s t : Columns) (c : Col) → c.quant.0 < 12 → has_column (union_columns s t) c ≡ (has_column s c || has_column t c) }
+    ensures passing { (p : ℕ → ℕ → Bool) (c : Col) → c.quant.0 < 12 → c.column < 32 → has_column (columns_where p) c ≡ p c.quant.0 c.column }
+    ensures within { (s t : Columns) → (is_columns_within s t ≡ true)
+        ↔ ((c : Col) → c.quant.0 < 12 → c.column < 32 → has_column s c ≡ true → has_column t c ≡ true) }
+{}
+
+/// Sets of the columns that pass a test: what an operation gives of them is the set of those that pass another.
+pub fn column_sets_go_by_tests()
+    ensures empty { columns_where (λ n m. false) ≡ replicate 12 0 }
+    ensures insert { (p : ℕ → ℕ → Bool) (c : Col) → with_column (columns_where p) c ≡ columns_where (λ n m. p n m || is_column_at n m c) }
+    ensures union { (p r : ℕ → ℕ → Bool) → union_columns (columns_where p) (columns_where r) ≡ columns_where (λ n m. p n m || r n m) }
+
+    // Tests that agree give one set.
+    ensures same { (p r : ℕ → ℕ → Bool) → ((n m : ℕ) → n < 12 → m < 32 → p n m ≡ r n m) → columns_where p ≡ columns_where r }
 {}
 
 /// The list of splits has each ordered pair of nonempty disjoint sets with that union once, and no other pair.

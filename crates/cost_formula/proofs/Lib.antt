@@ -1,0 +1,4 @@
+mod Looking
+mod Turns
+mod Depth
+mod Printed
