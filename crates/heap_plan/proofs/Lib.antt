@@ -1,6 +1,6 @@
 mod Root
 mod Only
 mod Accepted
-mod Formed
+mod Parts
 mod Planned
 pub mod Laws

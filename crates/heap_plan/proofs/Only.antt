@@ -22,11 +22,13 @@ use Rattle.star_model.specs.declared.rules.PlanExpr.TheVariants as plan
 use Rattle.star_model.specs.declared.rules.ValueExpr.TheVariants as expr
 use Rattle.star_model.specs.declared.values.RuleValue.{RuleValue}
 use Rattle.star_model.specs.declared.values.RuleValue.TheVariants as is
-use Rattle.star_model.specs.declared.catalogue.SiteDef.{SiteDef}
-use Rattle.spelling.specs.Catalogues.{TablePart}
+use Rattle.star_model.specs.declared.catalogue.Catalogue.{Catalogue}
+use Rattle.star_model.specs.declared.columns.Col.{Col}
+use Rattle.star_model.specs.declared.query.QuantDef.{QuantDef}
 use Rattle.spelling.specs.Tiny.{tiny_rules}
 use Rattle.spelling.proofs.Laws.{same_are}
-use Rattle.heap_plan.specs.Small.{small_query, heap_derivation}
+use Rattle.heap_plan.specs.Small.{heap_derivation}
+use Rattle.heap_plan.proofs.Parts.{small_query}
 
 left : (a b : Bool) → (a && b) ≡ true → a ≡ true
 left true b h = refl
@@ -158,17 +160,17 @@ module _ (q : Query) where
   only_goal (Unary f d) h = cc
   only_goal (Binary f d e) h = cc
 
-module _ (s : SiteDef) (t : TablePart) where
-  no_chain : (chain : List GlueOp) → is_chain (root_requirement (small_query s t)) chain ≡ true → chain ≡ []
+module _ (c : Catalogue) (d : QuantDef) (cols : List Col) where
+  no_chain : (chain : List GlueOp) → is_chain (root_requirement (small_query c d cols)) chain ≡ true → chain ≡ []
   unfolding is_chain
   no_chain [] h = refl
   no_chain (op.Sort ∷ chain) h = cc
   no_chain (op.Ship ∷ chain) h = cc
   no_chain (op.Store ∷ chain) h = cc
 
-  pub only : (tree : Deriv) (v : Props) → IsRoot (small_query s t) tiny_rules tree v → tree ≡ heap_derivation
+  pub only : (tree : Deriv) (v : Props) → IsRoot (small_query c d cols) tiny_rules tree v → tree ≡ heap_derivation
   unfolding set_of places heap_goal heap_reference heap_leaf
   only tree v root =
       let chain = no_chain root.chain root.one_of_chains in
-      let node = only_goal (small_query s t) root.goal_node root.valid in
+      let node = only_goal (small_query c d cols) root.goal_node root.valid in
       root.glue ∙ (λ i. Glue (chain i) (node i))

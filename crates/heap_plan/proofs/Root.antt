@@ -1,5 +1,6 @@
 -- The derivation is a root derivation, and what its vector is.
-use Rattle.std.proofs.Common.{◌≡◌, refl, [], ◌∷◌, false, None, codes}
+use Rattle.std.proofs.Common.{◌≡◌, refl, List, [], false, Some, None, codes}
+use Rattle.std.specs.Prelude.{slice_get}
 use Rattle.star_model.specs.Numbers.{cut_product}
 use denote.Hole.Carrier.{hidden}
 use Rattle.star_model.specs.declared.derivations.Deriv.TheBlock.{shape-the_row-Deriv-0, hidden-the_row-Deriv-0}
@@ -7,7 +8,7 @@ use Rattle.star_model.specs.declared.derivations.Deriv.TheVariants as made
 use Rattle.star_model.specs.declared.rules.Flavour.TheVariants as flavour
 use Rattle.star_model.specs.Sets.{single, places, has, set_of, members, union}
 use Rattle.star_model.specs.Plans.{is_chain}
-use Rattle.star_model.specs.Operators.{step, width_of}
+use Rattle.star_model.specs.Operators.{step}
 use Rattle.star_model.specs.Formulas.{value}
 use Rattle.star_model.specs.Costs.{formula_of}
 use Rattle.star_model.specs.Cardinality.{card}
@@ -17,18 +18,25 @@ use Rattle.star_model.specs.Vectors.{begins, satisfies}
 use Rattle.star_model.specs.Expected.{leaf_of}
 use Rattle.star_model.specs.Judging.{Vector, judge, judge_root}
 use Rattle.star_model.specs.declared.plans.Props.{Props}
+use Rattle.star_model.specs.declared.catalogue.Catalogue.{Catalogue}
 use Rattle.star_model.specs.declared.catalogue.SiteDef.{SiteDef}
-use Rattle.spelling.specs.Catalogues.{TablePart}
+use Rattle.star_model.specs.declared.catalogue.TableDef.{TableDef}
+use Rattle.star_model.specs.declared.columns.Col.{Col}
+use Rattle.star_model.specs.declared.query.QuantDef.{QuantDef}
+use Rattle.star_model.specs.declared.query.Query.{Query}
 use Rattle.spelling.specs.Tiny.{tiny_rules}
-use Rattle.heap_plan.specs.Small.{heap_cost, small_query, heap_derivation}
+use Rattle.spelling.proofs.Laws.{same_self}
+use Rattle.heap_plan.specs.Small.{heap_cost, heap_derivation}
+use Rattle.heap_plan.proofs.Parts.{small_query}
 
-abbrev pub heap_vector : SiteDef → TablePart → Props
-heap_vector s t = record {
+-- of a heap access on the only quantifier, with its table and the table's site
+abbrev pub heap_vector : Query → TableDef → SiteDef → Props
+heap_vector q t s = record {
   tables = 1;
-  cols = 1 ∷ 0 ∷ 0 ∷ 0 ∷ 0 ∷ 0 ∷ 0 ∷ 0 ∷ 0 ∷ 0 ∷ 0 ∷ 0 ∷ [];
+  cols = used q 1;
   preds = 0;
   order = [];
-  site = record { 0 = 0 };
+  site = t.site;
   temp = false;
   path = [];
   card = cut_product 1 t.rows;
@@ -36,9 +44,10 @@ heap_vector s t = record {
   rescan = heap_cost t.pages s.cpu t.rows;
 }
 
-pub judged : (s : SiteDef) (t : TablePart) → judge_root (small_query s t) tiny_rules heap_derivation ≡ Vector (heap_vector s t)
-unfolding places has set_of members union is_chain step width_of value formula_of card used eligible crossing meaning begins satisfies leaf_of judge tiny_rules
-judged s t = refl
+pub judged : (c : Catalogue) (d : QuantDef) (cols : List Col) (t : TableDef) (s : SiteDef) → slice_get c.tables d.table ≡ Some t → slice_get c.sites t.site.0 ≡ Some s
+    → judge_root (small_query c d cols) tiny_rules heap_derivation ≡ Vector (heap_vector (small_query c d cols) t s)
+unfolding places has set_of members union is_chain step value formula_of card eligible crossing meaning begins satisfies leaf_of judge tiny_rules
+judged c d cols t s table site = rw (table, site, same_self (used (small_query c d cols) 1)) refl
 
 -- what code makes is the derivation
 pub made_heap : made.Glue [] (made.Goal (record { tables = single 0; pushed = 0 }) None (made.Reference (codes "AccessRoot") 1 [] (made.Leaf flavour.AccessHeap))) ≡ heap_derivation

@@ -1,6 +1,7 @@
 // The least plan of a small query.
 
-ghost use Rattle.std.specs.Prelude.{◌≡◌, IfOk, codes};
+ghost use Rattle.std.specs.Prelude.{◌≡◌, IfOk, Some, slice_get};
+ghost use Rattle.star_model.specs.Cardinality.{table_of};
 ghost use Rattle.star_model.specs.Derivations.{IsLeast};
 ghost use Rattle.star_model.specs.Formulas.{value};
 ghost use Rattle.star_model.specs.declared.formula.Vars.{Vars};
@@ -8,6 +9,7 @@ ghost use Rattle.star_model.specs.declared.formula.Formula.TheVariants as formul
 ghost use Rattle.star_model.specs.declared.plans.Props.{Props};
 ghost use Rattle.spelling.specs.Tiny.{tiny_rules};
 ghost use Rattle.heap_plan.specs.Small.{IsSmall, heap_derivation, heap_cost};
+ghost use Rattle.heap_plan.specs.HeapAccess.{IsHeapAccess};
 
 use cost_formula::eval;
 use sqlite_items::Boxed;
@@ -15,7 +17,7 @@ use star_model::catalogue::{SiteDef, TableDef};
 use star_model::derivations::{Deriv, ForAllValues};
 use star_model::formula::{Formula, Var, Vars};
 use star_model::lists::Name;
-use star_model::num::{Num, cap_mul};
+use star_model::num::Num;
 use star_model::plans::{Chain, Goal};
 use star_model::query::Query;
 use star_model::rules::Flavour;
@@ -34,18 +36,7 @@ pub struct LeastPlan {
     pub card: Num,
 }
 
-/// The name of the root STAR of accesses.
-fn access_root(alloc: Global) -> Result<Name, AllocError>
-    ensures { IfOk result (λ name. name ≡ codes "AccessRoot") }
-{
-    let mut name = Name::new(alloc);
-    for letter in b"AccessRoot" {
-        name.push(*letter)?;
-    }
-    Ok(name)
-}
-
-/// The heap of the only table, by the first alternative of its root STAR.
+/// The heap of the only quantifier, by the first alternative of its root STAR.
 #[tactic(auto, using(crate::proofs::Root::made_heap))]
 fn heap_derivation(alloc: Global) -> Result<Deriv, AllocError>
     ensures { IfOk result (λ deriv. deriv ≡ heap_derivation) }
@@ -54,7 +45,7 @@ fn heap_derivation(alloc: Global) -> Result<Deriv, AllocError>
         flavour: Flavour::AccessHeap,
     };
     let reference = Deriv::Reference {
-        star: access_root(alloc)?,
+        star: Name::from_slice(alloc, b"AccessRoot")?,
         alternative: 1,
         values: ForAllValues::new(),
         body: Boxed::new(alloc, access)?,
@@ -96,7 +87,8 @@ fn heap_formula(alloc: Global) -> Result<Formula, AllocError>
     Ok(Formula::Add(pages, rows))
 }
 
-fn heap_cost(alloc: Global, site: &SiteDef, table: &TableDef) -> Result<Num, AllocError>
+/// What each production of a heap access costs.
+fn heap_cost(alloc: Global, table: &TableDef, site: &SiteDef) -> Result<Num, AllocError>
     ensures { IfOk result (λ n. n ≡ heap_cost table.now.pages site.now.cpu table.now.rows) }
 {
     let none = Num::cut(0);
@@ -121,7 +113,40 @@ fn heap_cost(alloc: Global, site: &SiteDef, table: &TableDef) -> Result<Num, All
     Ok(eval(&formula, &vars))
 }
 
-/// The least plan of a query for the only column of the only table, by the smallest rules: a heap access.
+/// The table of the only quantifier.
+#[tactic(auto, using(crate::proofs::Parts::read_rules))]
+fn only_table(query: &Query) -> &TableDef
+    requires { IsSmall query.now }
+    ensures { table_of query.now 0 ≡ Some result.now }
+{
+    let quant = &query.quants.as_slice()[0];
+    &query.catalogue.tables.as_slice()[usize::from(quant.table)]
+}
+
+/// The site where the table of the only quantifier lies.
+#[tactic(auto, using(crate::proofs::Parts::read_rules))]
+fn home<'a>(query: &'a Query, table: &TableDef) -> &'a SiteDef
+    requires small { IsSmall query.now }
+    requires table { table_of query.now 0 ≡ Some table.now }
+    ensures { slice_get query.now.catalogue.sites table.now.site.0 ≡ Some result.now }
+{
+    &query.catalogue.sites.as_slice()[usize::from(table.site.0)]
+}
+
+/// The heap of this table, read at the site where it lies.
+fn heap_access(alloc: Global, table: &TableDef, site: &SiteDef) -> Result<LeastPlan, AllocError>
+    ensures { IfOk result (IsHeapAccess table.now site.now) }
+{
+    let cost = heap_cost(alloc, table, site)?;
+    Ok(LeastPlan {
+        deriv: heap_derivation(alloc)?,
+        cost,
+        rescan: cost,
+        card: table.rows,
+    })
+}
+
+/// The least plan of a small query by the smallest rules: a heap access on the table of its quantifier.
 ///
 /// # Errors
 ///
@@ -130,13 +155,7 @@ pub fn least_plan(alloc: Global, query: &Query) -> Result<LeastPlan, AllocError>
     requires { IsSmall query.now }
     ensures { IfOk result (λ plan. (v : Props) × IsLeast query.now tiny_rules plan.deriv v × (plan.cost ≡ v.cost) × (plan.rescan ≡ v.rescan) × (plan.card ≡ v.card)) }
 {
-    let site = &query.catalogue.sites.as_slice()[0];
-    let table = &query.catalogue.tables.as_slice()[0];
-    let cost = heap_cost(alloc, site, table)?;
-    Ok(LeastPlan {
-        deriv: heap_derivation(alloc)?,
-        cost,
-        rescan: cost,
-        card: cap_mul(Num::cut(1), table.rows),
-    })
+    let table = only_table(query);
+    let site = home(query, table);
+    heap_access(alloc, table, site)
 }

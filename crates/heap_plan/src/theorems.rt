@@ -2,25 +2,16 @@
 
 ghost use Rattle.std.specs.Prelude.{◌≡◌};
 ghost use Rattle.star_model.specs.Accepted.{IsAccepted};
-ghost use Rattle.star_model.specs.WellFormed.{WellFormedQuery};
 ghost use Rattle.star_model.specs.Derivations.{IsRoot};
-ghost use Rattle.star_model.specs.declared.catalogue.ColumnDef.{ColumnDef};
-ghost use Rattle.star_model.specs.declared.catalogue.SiteDef.{SiteDef};
 ghost use Rattle.star_model.specs.declared.derivations.Deriv.{Deriv};
 ghost use Rattle.star_model.specs.declared.plans.Props.{Props};
 ghost use Rattle.star_model.specs.declared.query.Query.{Query};
-ghost use Rattle.spelling.specs.Catalogues.{TablePart};
 ghost use Rattle.spelling.specs.Tiny.{tiny_rules};
-ghost use Rattle.heap_plan.specs.Small.{small_query, IsSmall, KeepLimits, heap_derivation};
+ghost use Rattle.heap_plan.specs.Small.{IsSmall, heap_derivation};
 
 /// The smallest rules have no fault.
 pub fn smallest_rules_are_accepted()
     ensures { IsAccepted tiny_rules }
-{}
-
-/// A small query is well formed where the parts of its catalogue keep the limits.
-pub fn small_queries_are_well_formed()
-    ensures { (s : SiteDef) (t : TablePart) (c : ColumnDef) → KeepLimits s t c → WellFormedQuery (small_query s t) }
 {}
 
 /// A small query has a root derivation by the smallest rules, and only one.

@@ -6,7 +6,6 @@ pub mod Derived
 pub mod TinyLaws
 pub mod Cutting
 pub mod BuiltLaws
-pub mod ThinLaws
 pub mod Says
 pub mod ThreeTexts
 mod ThreeFiles

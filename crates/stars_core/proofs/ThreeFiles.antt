@@ -12,7 +12,8 @@ use Rattle.stars_core.specs.Judging.{Refuses, RulesPass, CataloguePasses, QueryP
 use Rattle.stars_core.specs.Plan.{three}
 use Rattle.stars_core.specs.Shelves.{Fetched, NotFetched, RanInto}
 use Rattle.stars_core.proofs.Along.{CameAlong, starts, unfetched, stopped, goes_along}
-use Rattle.stars_core.proofs.ThreeTexts.{refuses_map, rules_pass, catalogue_passes, query_passes, query_stops}
+use Rattle.stars_core.proofs.FaultLaws.{refuses_map, rules_pass, catalogue_passes, query_passes}
+use Rattle.stars_core.proofs.ThreeTexts.{over, query_stops}
 
 module _ (before : ShelfState) (rules catalogue query : List ℕ) where
   -- ---- the rules
@@ -73,4 +74,4 @@ module _ (before : ShelfState) (rules catalogue query : List ℕ) where
         → CameAlong before now (three_requests rules catalogue query) (three r c q.items)
     after_query now tree q asked pass goes read of =
         goes_along before mid now ((Rules, rules) ∷ (Catalogue, catalogue) ∷ []) [] (Query, query) ((Rules, r) ∷ (Catalogue, c) ∷ []) q along goes read
-        (query_passes r c q.items tree asked pass of)
+        (query_passes tree q.items asked of ((Rules, r) ∷ (Catalogue, c) ∷ []) (over r c tree pass))

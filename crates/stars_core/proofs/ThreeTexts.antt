@@ -2,40 +2,24 @@
 use Rattle.std.proofs.Common.{ℕ, List, [], ◌∷◌}
 use Rattle.star_model.specs.declared.catalogue.Catalogue.{Catalogue as CatalogueTree}
 use Rattle.star_model.specs.declared.query.Query.{Query as QueryTree}
-use Rattle.stars_core.specs.declared.refusal.TextKind.{TextKind}
 use Rattle.stars_core.specs.declared.refusal.TextKind.TheVariants.{Rules, Catalogue, Query}
 use Rattle.stars_core.specs.declared.refusal.Refusal.{Refusal}
 use Rattle.stars_core.specs.declared.refusal.Refusal.TheVariants.{Usage, Unread, Refused, Memory}
-use Rattle.stars_core.specs.Built.{Given}
-use Rattle.stars_core.specs.Faults.{Stops, Passes, PassAll}
+use Rattle.stars_core.specs.Built.{Over}
+use Rattle.stars_core.specs.Faults.{Stops, PassAll}
 use Rattle.stars_core.specs.Judging.{Refuses, RulesPass, CataloguePasses, QueryPasses, StopsAlways, StopsOver}
 use Rattle.stars_core.specs.Plan.{NotPlanned, three}
-use Rattle.stars_core.proofs.FaultLaws.{built_passes}
+use Rattle.stars_core.proofs.FaultLaws.{rules_pass, catalogue_passes, query_passes}
 
-pub refuses_map : (kind : TextKind) (P Q : List ℕ → Type 0) (refusal : Refusal) → ((line : List ℕ) → P line → Q line) → Refuses kind P refusal → Refuses kind Q refusal
-refuses_map kind P Q Usage f p = p
-refuses_map kind P Q (Unread line) f p = p
-refuses_map kind P Q (Refused k line) f p = (p.0, f _ p.1)
-refuses_map kind P Q Memory f p = tt
-
-pub rules_pass : (r : List ℕ) → RulesPass r → (earlier : List Given) → Passes earlier (Rules, r)
-rules_pass r pass earlier = built_passes earlier (Rules, r) pass.tokens pass.built
-
-pub catalogue_passes : (c : List ℕ) (catalogue : CatalogueTree) → CataloguePasses c catalogue → (earlier : List Given) → Passes earlier (Catalogue, c)
-catalogue_passes c catalogue pass earlier = built_passes earlier (Catalogue, c) pass.tokens (pass.read.count, pass.read.site, pass.read.table, pass.read.has)
-
-pub query_passes : (r c q : List ℕ) (catalogue : CatalogueTree) (query : QueryTree) → CataloguePasses c catalogue → QueryPasses catalogue q query
-    → Passes ((Rules, r) ∷ (Catalogue, c) ∷ []) (Query, q)
-query_passes r c q catalogue query pass of =
-    built_passes ((Rules, r) ∷ (Catalogue, c) ∷ []) (Query, q) of.tokens
-    (of.read.count, pass.read.site, pass.read.table, pass.read.has, of.read.selects pass.read.site pass.read.table pass.read.is)
+pub over : (r c : List ℕ) (catalogue : CatalogueTree) → CataloguePasses c catalogue → Over ((Rules, r) ∷ (Catalogue, c) ∷ []) catalogue
+over r c catalogue pass = record { spells = pass.read.spells; formed = pass.read.formed }
 
 pub three_pass : (r c q : List ℕ) (catalogue : CatalogueTree) (query : QueryTree) → RulesPass r → CataloguePasses c catalogue → QueryPasses catalogue q query → PassAll [] (three r c q)
-three_pass r c q catalogue query rules pass of = (rules_pass r rules [], (catalogue_passes c catalogue pass ((Rules, r) ∷ []), (query_passes r c q catalogue query pass of, tt)))
+three_pass r c q catalogue query rules pass of = (rules_pass r rules [], (catalogue_passes c catalogue pass ((Rules, r) ∷ []), (query_passes catalogue q query of ((Rules, r) ∷ (Catalogue, c) ∷ []) (over r c catalogue pass), tt)))
 
 -- a query is stopped behind the texts that were accepted
 pub query_stops : (r c q : List ℕ) (catalogue : CatalogueTree) → CataloguePasses c catalogue → (line : List ℕ) → StopsOver catalogue q line → Stops ((Rules, r) ∷ (Catalogue, c) ∷ []) (Query, q) line
-query_stops r c q catalogue pass line stops = stops c pass.read
+query_stops r c q catalogue pass line stops = stops ((Rules, r) ∷ (Catalogue, c) ∷ []) (over r c catalogue pass)
 
 -- the first of the three that is stopped
 pub rules_not : (r c q : List ℕ) (refusal : Refusal) → Refuses Rules (StopsAlways Rules r) refusal → NotPlanned r c q refusal

@@ -1,31 +1,41 @@
 -- Some files of which the clauses speak, and what a run that is done says.
-use Rattle.std.proofs.Common.{◌≡◌, ℕ, List, [], ◌∷◌, ◌≤◌, length, if◌then◌else◌, Option, None, Some, refl, ap, sym, ◌∙◌, subst, arith, codes, zero, suc}
-use Rattle.std.specs.Prelude.{slice_get}
+use Rattle.std.proofs.Common.{◌≡◌, inl, inr, ℕ, List, [], ◌∷◌, ◌≤◌, false, if◌then◌else◌, Option, None, Some, refl, sym, subst, arith, codes, zero, suc}
+use Rattle.std.specs.Prelude.{IsTrue}
 use Rattle.std.specs.Str.{bytes_eq, IsAscii}
 use Rattle.std.specs.List.{concat}
 use Rattle.std.proofs.lemmas.List.{append-nil}
 use Rattle.std.proofs.lemmas.Str.{IsUtf8-from_ascii}
 use Rattle.sb_text.specs.Tokens.{lexed, lexed_after}
+use Rattle.sb_text.specs.Refusal.{fault_of}
 use Rattle.sb_outside.specs.Shelf.{Files, ShelfState}
 use Rattle.sb_outside.specs.Sink.{SinkState, Adds}
+use Rattle.star_model.specs.WellFormed.{WellFormedQuery}
 use Rattle.star_model.specs.declared.catalogue.Catalogue.{Catalogue as CatalogueTree}
-use Rattle.star_model.specs.declared.catalogue.TableDef.{TableDef}
 use Rattle.star_model.specs.declared.catalogue.SiteDef.{SiteDef}
 use Rattle.star_model.specs.declared.catalogue.ColumnDef.{ColumnDef}
 use Rattle.star_model.specs.declared.catalogue.ColType.TheVariants as type
-use Rattle.spelling.specs.Lexemes.{MaybeEnded, statements_in, ended}
-use Rattle.spelling.specs.Catalogues.{TablePart, Site, Table, catalogue_lexemes, table_from}
-use Rattle.spelling.specs.Queries.{IsFree, only_column, query_lexemes}
+use Rattle.star_model.specs.declared.query.Query.{Query as QueryTree}
+use Rattle.star_model.specs.declared.faults.LimitKind.{LimitKind}
+use Rattle.star_model.specs.declared.faults.LimitKind.TheVariants as limit
+use Rattle.spelling.specs.Lexemes.{statements_in}
+use Rattle.spelling.specs.Firsts.{NoneHas}
+use Rattle.spelling.specs.Limits.{HasGreatNumber, HasLongWord}
+use Rattle.spelling.specs.Catalogues.{TablePart, CatalogueStatement, Site, Table, catalogue_lexemes, table_from, catalogue_of}
+use Rattle.spelling.specs.Queries.{QueryStatement, only_column, query_lexemes, query_of}
 use Rattle.spelling.specs.Tiny.{tiny_rules}
-use Rattle.heap_plan.specs.Small.{small_catalogue, small_query}
+use Rattle.catalogue.specs.Defined.{NamesUnknown, DefinesTwice}
+use Rattle.catalogue.specs.Beyond.{Beyond, IsBeyond, IsFileName}
+use Rattle.catalogue.specs.Faults.{SaysStatements}
+use Rattle.catalogue.proofs.Laws.{no_fault, formed}
+use Rattle.query_graph.specs.Faults as queries
+use Rattle.query_graph.proofs.Laws.{accepted_query}
 use Rattle.stars_core.specs.declared.command.Command.{Command}
 use Rattle.stars_core.specs.declared.command.Command.TheVariants.{Plan}
 use Rattle.stars_core.specs.declared.status.Found.TheVariants.{Planned}
 use Rattle.stars_core.specs.declared.status.Status.TheVariants.{Done}
 use Rattle.stars_core.specs.CommandLine.{CommandLine, command_of}
 use Rattle.stars_core.specs.TinyText.{tiny_text}
-use Rattle.stars_core.specs.Built.{SelectsFrom}
-use Rattle.stars_core.specs.Judging.{HasTokens, RulesPass, CataloguePasses, QueryPasses}
+use Rattle.stars_core.specs.Judging.{RulesPass, CataloguePasses, QueryPasses}
 use Rattle.stars_core.specs.Shelves.{Puts}
 use Rattle.stars_core.specs.Answers.{Answered, AllPut, DoneSays, SomeTold}
 use Rattle.stars_core.proofs.TinyLaws.{tiny_accepted, tiny_says, tiny_length}
@@ -58,7 +68,7 @@ abbrev table : TablePart
 table = record { name = codes "t"; site = codes "s"; rows = 1; pages = 1; file = codes "f"; columns = column ∷ [] }
 
 abbrev catalogue : CatalogueTree
-catalogue = small_catalogue site table
+catalogue = record { sites = site ∷ []; tables = table_from 0 table ∷ []; indexes = [] }
 
 abbrev catalogue_text : List ℕ
 catalogue_text = codes "site s cpu 1 net 1;table t at s rows 1 pages 1 file 'f'(a int width 8 distinct 1);"
@@ -67,84 +77,214 @@ abbrev query_text : List ℕ
 query_text = codes "select t.a from t;"
 
 rules_pass : RulesPass tiny_text
-rules_pass = record {
-  tokens = record { size = subst (λ (n : ℕ). n ≤ 1048576) (sym tiny_length) (omega arith); accepted = tiny_accepted };
-  built = tiny_says;
-}
+rules_pass = record { size = subst (λ (n : ℕ). n ≤ 1048576) (sym tiny_length) (omega arith); accepted = tiny_accepted; built = tiny_says }
 
-catalogue_tokens : HasTokens catalogue_text
+-- ---- the catalogue
+
+abbrev statements : List CatalogueStatement
+statements = Site site ∷ Table table ∷ []
+
+catalogue_accepted : fault_of catalogue_text ≡ None
 unfolding lexed lexed_after
-catalogue_tokens = record { size = omega arith; accepted = refl }
+catalogue_accepted = refl
 
-catalogue_statements : statements_in catalogue_text ≡ ended (catalogue_lexemes (Site site)) ∷ ended (catalogue_lexemes (Table table)) ∷ []
+catalogue_says : SaysStatements catalogue_text statements
 unfolding lexed lexed_after statements_in
-catalogue_statements = refl
+catalogue_says = record { are = record { all_tokens = refl; are = refl }; columns = (tt, (tt, tt)) }
+
+catalogue_means : catalogue_of statements ≡ Some catalogue
+unfolding catalogue_of
+catalogue_means = refl
+
+known : NoneHas NamesUnknown statements
+known = (λ (h : IsTrue false). absurd cc, (λ (h : IsTrue false). absurd cc, tt))
+
+once : NoneHas DefinesTwice statements
+once = (λ (h : IsTrue false). absurd cc, (λ (h : IsTrue false). absurd cc, tt))
+
+small_site : HasGreatNumber (catalogue_lexemes (Site site)) → ⊥
+small_site (inl h) = omega arith
+small_site (inr (inl h)) = omega arith
+small_site (inr (inr h)) = h
+
+small_table : HasGreatNumber (catalogue_lexemes (Table table)) → ⊥
+small_table (inl h) = omega arith
+small_table (inr (inl h)) = omega arith
+small_table (inr (inr (inl h))) = omega arith
+small_table (inr (inr (inr (inl h)))) = omega arith
+small_table (inr (inr (inr (inr h)))) = h
+
+short_site : HasLongWord (catalogue_lexemes (Site site)) → ⊥
+short_site (inl h) = omega arith
+short_site (inr (inl h)) = omega arith
+short_site (inr (inr (inl h))) = omega arith
+short_site (inr (inr (inr (inl h)))) = omega arith
+short_site (inr (inr (inr (inr h)))) = h
+
+short_table : HasLongWord (catalogue_lexemes (Table table)) → ⊥
+short_table (inl h) = omega arith
+short_table (inr (inl h)) = omega arith
+short_table (inr (inr (inl h))) = omega arith
+short_table (inr (inr (inr (inl h)))) = omega arith
+short_table (inr (inr (inr (inr (inl h))))) = omega arith
+short_table (inr (inr (inr (inr (inr (inl h)))))) = omega arith
+short_table (inr (inr (inr (inr (inr (inr (inl h))))))) = omega arith
+short_table (inr (inr (inr (inr (inr (inr (inr (inl h)))))))) = omega arith
+short_table (inr (inr (inr (inr (inr (inr (inr (inr (inl h))))))))) = omega arith
+short_table (inr (inr (inr (inr (inr (inr (inr (inr (inr (inl h)))))))))) = omega arith
+short_table (inr (inr (inr (inr (inr (inr (inr (inr (inr (inr (inl h))))))))))) = omega arith
+short_table (inr (inr (inr (inr (inr (inr (inr (inr (inr (inr (inr h))))))))))) = h
 
 ascii : IsAscii (codes "f")
 ascii zero = omega arith
 ascii (suc zero) = omega arith
 ascii (suc (suc i)) = omega arith
 
+file_name : IsFileName (codes "f")
+file_name = record { some = omega arith; few = omega arith; utf8 = IsUtf8-from_ascii (codes "f") ascii }
+
+site_within : (what : LimitKind) → Beyond [] (Site site) what → ⊥
+site_within limit.Number h = small_site h
+site_within limit.Name h = short_site h
+site_within limit.File h = h
+site_within limit.Params h = h
+site_within limit.Alternatives h = h
+site_within limit.ForAlls h = h
+site_within limit.Stars h = h
+site_within limit.Depth h = h
+site_within limit.Formula h = h
+site_within limit.Sites h = omega arith
+site_within limit.Tables h = h
+site_within limit.Columns h = h
+site_within limit.Indexes h = h
+site_within limit.IndexColumns h = h
+site_within limit.Quantifiers h = h
+site_within limit.Predicates h = h
+site_within limit.Select h = h
+site_within limit.OrderBy h = h
+
+table_within : (what : LimitKind) → Beyond (Site site ∷ []) (Table table) what → ⊥
+table_within limit.Number h = small_table h
+table_within limit.Name h = short_table h
+table_within limit.File h = h file_name
+table_within limit.Params h = h
+table_within limit.Alternatives h = h
+table_within limit.ForAlls h = h
+table_within limit.Stars h = h
+table_within limit.Depth h = h
+table_within limit.Formula h = h
+table_within limit.Sites h = h
+table_within limit.Tables h = omega arith
+table_within limit.Columns h = omega arith
+table_within limit.Indexes h = h
+table_within limit.IndexColumns h = h
+table_within limit.Quantifiers h = h
+table_within limit.Predicates h = h
+table_within limit.Select h = h
+table_within limit.OrderBy h = h
+
+within : NoneHas IsBeyond statements
+within = (λ beyond. site_within beyond.0 beyond.1, (λ beyond. table_within beyond.0 beyond.1, tt))
+
 catalogue_passes : CataloguePasses catalogue_text catalogue
 catalogue_passes = record {
-  tokens = catalogue_tokens;
+  size = omega arith;
   read = record {
-    count = ap (λ (l : List MaybeEnded). length l) catalogue_statements;
-    site = site;
-    table = table;
-    has = record {
-      site = record {
-        is = ap (λ (l : List MaybeEnded). slice_get l 0) catalogue_statements;
-        built = record { name = omega arith; cpu = omega arith; net = omega arith };
-      };
-      statement = ended (catalogue_lexemes (Table table));
-      second = ap (λ (l : List MaybeEnded). slice_get l 1) catalogue_statements;
-      is = record { is = refl; column = column; columns = refl };
-      built = record {
-        site = refl;
-        name = omega arith;
-        rows = omega arith;
-        pages = omega arith;
-        file = record { some = omega arith; few = omega arith; utf8 = IsUtf8-from_ascii (codes "f") ascii };
-        columns = (record { name = omega arith; width = omega arith; distinct = omega arith }, tt);
-      };
-    };
-    is = refl;
+    spells = record { statements = statements; are = catalogue_says.are; columns = catalogue_says.columns; means = catalogue_means };
+    formed = formed catalogue_text statements catalogue_says once within catalogue catalogue_means;
+    clear = no_fault catalogue_text statements catalogue_accepted catalogue_says known once within;
   };
 }
 
-query_tokens : HasTokens query_text
+-- ---- the query
+
+abbrev query : QueryTree
+query = record {
+  catalogue = catalogue;
+  quants = record { name = codes "t"; table = 0 } ∷ [];
+  select = record { quant = record { 0 = 0 }; column = 0 } ∷ [];
+  preds = [];
+  order = [];
+  site = None;
+}
+
+query_accepted : fault_of query_text ≡ None
 unfolding lexed lexed_after
-query_tokens = record { size = omega arith; accepted = refl }
+query_accepted = refl
 
-query_statements : statements_in query_text ≡ ended (query_lexemes (only_column (codes "t") (codes "a"))) ∷ []
+abbrev selection : QueryStatement
+selection = only_column (codes "t") (codes "a")
+
+query_says : queries.Says query_text selection
 unfolding lexed lexed_after statements_in
-query_statements = refl
+query_says = record {
+  are = record { all_tokens = refl; are = refl };
+  stands = record { some_columns = tt; some_items = tt; select = (refl, tt); items = ((refl, tt), tt); comparisons = tt; order = tt; site = tt };
+}
 
-one_table : (s : SiteDef) (t : TablePart) → catalogue ≡ small_catalogue s t → table_from 0 table ≡ table_from 0 t
-one_table s t is = let e : table_from 0 table ∷ [] ≡ table_from 0 t ∷ [] = ap (λ (c : CatalogueTree). c.tables) is in cc
+query_means : query_of catalogue selection ≡ Some query
+unfolding query_of
+query_means = refl
 
-selects : (s : SiteDef) (t : TablePart) → catalogue ≡ small_catalogue s t → SelectsFrom (statements_in query_text) t
-selects s t is =
-    let name : codes "t" ≡ t.name = ap (λ (d : TableDef). d.name) (one_table s t is) in
-    record {
-      column = column;
-      columns = sym (ap (λ (d : TableDef). d.columns) (one_table s t is));
-      free = subst (λ (n : List ℕ). IsFree n) name refl;
-      is = ap (λ (l : List MaybeEnded). slice_get l 0) query_statements
-          ∙ ap (λ (n : List ℕ). Some (ended (query_lexemes (only_column n (codes "a"))))) name;
-    }
+query_formed : WellFormedQuery query
+query_formed = record {
+  catalogue = formed catalogue_text statements catalogue_says once within catalogue catalogue_means;
+  some_quantifiers = (omega arith, omega arith);
+  some_columns = (omega arith, omega arith);
+  few_predicates = omega arith;
+  few_in_order = omega arith;
+  tables = refl;
+  short_names = refl;
+  quantifiers_differ = refl;
+  select = refl;
+  order = refl;
+  columns = refl;
+  constants = refl;
+  one_type = refl;
+  site = refl;
+}
 
-query_passes : QueryPasses catalogue query_text (small_query site table)
+names_known : queries.NamesUnknown catalogue selection → ⊥
+names_known (queries.table e) = cc
+names_known (queries.column e) = cc
+names_known (queries.site name e f) = cc
+
+names_once : queries.DefinesTwice selection → ⊥
+names_once e = cc
+
+short_selection : HasLongWord (query_lexemes selection) → ⊥
+short_selection (inl h) = omega arith
+short_selection (inr (inl h)) = omega arith
+short_selection (inr (inr (inl h))) = omega arith
+short_selection (inr (inr (inr (inl h)))) = omega arith
+short_selection (inr (inr (inr (inr (inl h))))) = omega arith
+short_selection (inr (inr (inr (inr (inr h))))) = h
+
+limits_kept : (what : LimitKind) → queries.Beyond selection what → ⊥
+limits_kept limit.Number h = h
+limits_kept limit.Name h = short_selection h
+limits_kept limit.File h = h
+limits_kept limit.Params h = h
+limits_kept limit.Alternatives h = h
+limits_kept limit.ForAlls h = h
+limits_kept limit.Stars h = h
+limits_kept limit.Depth h = h
+limits_kept limit.Formula h = h
+limits_kept limit.Sites h = h
+limits_kept limit.Tables h = h
+limits_kept limit.Columns h = h
+limits_kept limit.Indexes h = h
+limits_kept limit.IndexColumns h = h
+limits_kept limit.Quantifiers h = omega arith
+limits_kept limit.Predicates h = omega arith
+limits_kept limit.Select h = omega arith
+limits_kept limit.OrderBy h = omega arith
+
+query_passes : QueryPasses catalogue query_text query
 query_passes = record {
-  tokens = query_tokens;
-  read = record {
-    count = ap (λ (l : List MaybeEnded). length l) query_statements;
-    selects = selects;
-    is = λ s t is.
-        let name : codes "t" ≡ t.name = ap (λ (d : TableDef). d.name) (one_table s t is) in
-        (λ i. record (small_query site table) { catalogue = is i; quants = record { name = name i; table = 0 } ∷ [] });
-  };
+  size = omega arith;
+  read = accepted_query catalogue query_text selection query_accepted query_says names_known names_once limits_kept query query_means tt query_formed;
+  built = record { formed = query_formed; quantifier = refl; predicates = refl; order = refl; site = refl };
 }
 
 pub some_told : SomeTold
@@ -158,13 +298,13 @@ some_told =
       catalogue_text,
       query_text,
       tiny_rules,
-      small_query site table,
+      query,
       record {
         files = files;
         told = refl;
         listed = refl;
         held = (refl, refl, (refl, refl, (refl, refl, tt)));
-        accepted = three_pass tiny_text catalogue_text query_text catalogue (small_query site table) rules_pass catalogue_passes query_passes;
-        says = says catalogue_text catalogue catalogue_passes query_text (small_query site table) query_passes tiny_text rules_pass;
+        accepted = three_pass tiny_text catalogue_text query_text catalogue query rules_pass catalogue_passes query_passes;
+        says = says tiny_text catalogue_text query_text catalogue query rules_pass catalogue_passes query_passes;
       },
     )

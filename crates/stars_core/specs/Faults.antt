@@ -2,27 +2,38 @@
 use Rattle.std.specs.Prelude.{◌≡◌, ◌⊎◌, ◌<◌, ℕ, List, [], ◌∷◌, ◌++◌, length, Some}
 use Prim.Native.Nat.{zero, suc}
 use Rattle.sb_text.specs.Refusal.{fault_of}
-use Rattle.sb_text.specs.declared.token.TextFault.TheVariants as text
+use Rattle.sb_text.specs.declared.token.TextFault.{TextFault}
+use Rattle.star_model.specs.declared.catalogue.Catalogue.{Catalogue as CatalogueTree}
+use Rattle.catalogue.specs.declared.fault.CatFault.{CatFault}
+use Rattle.catalogue.specs.Faults as catalogues
+use Rattle.query_graph.specs.declared.fault.QueryFault.{QueryFault}
+use Rattle.query_graph.specs.Faults as queries
 use Rattle.stars_core.specs.declared.refusal.TextKind.{TextKind}
-use Rattle.stars_core.specs.Lines.{too_long_line, lexical_line, too_deep_line, not_built_line}
-use Rattle.stars_core.specs.Built.{Given, IsUnbuiltAt}
+use Rattle.stars_core.specs.declared.refusal.TextKind.TheVariants.{Rules, Catalogue, Query}
+use Rattle.stars_core.specs.Lines.{too_long_line, rules_line, catalogue_line, query_line}
+use Rattle.stars_core.specs.Built.{Given, Over, IsUnbuilt}
 
 pub data Kind : Type 0 where
   TooLong : Kind
-  Lexical : Kind
-  TooDeep : Kind
+  Misread : Kind
   NotBuilt : Kind
 
 -- the kinds of fault that a text may have, in the order in which they are judged
 abbrev pub faults_of : TextKind → List Kind
-faults_of kind = TooLong ∷ Lexical ∷ TooDeep ∷ NotBuilt ∷ []
+faults_of kind = TooLong ∷ Misread ∷ NotBuilt ∷ []
+
+-- the first of the faults that the text's reader finds, and the line that tells it
+abbrev pub IsMisread : List Given → Given → List ℕ → Type 0
+IsMisread earlier (Rules, r) line = (fault : TextFault) × (fault_of r ≡ Some fault) × (rules_line fault ≡ Some line)
+IsMisread earlier (Catalogue, c) line = (fault : CatFault) × catalogues.IsFirstFault c fault × (catalogue_line fault ≡ Some line)
+IsMisread earlier (Query, q) line =
+    (catalogue : CatalogueTree) × Over earlier catalogue × (fault : QueryFault) × queries.IsFirstFault catalogue q fault × (query_line fault ≡ Some line)
 
 -- the text has a fault of this kind, and the line tells it
 abbrev pub HasFault : List Given → Given → Kind → List ℕ → Type 0
 HasFault earlier this TooLong line = (1048576 < length this.1) × (line ≡ too_long_line this.0)
-HasFault earlier this Lexical line = (offset : ℕ) × (fault_of this.1 ≡ Some (text.Lexical offset)) × (line ≡ lexical_line this.0 offset)
-HasFault earlier this TooDeep line = (statement : ℕ) × (fault_of this.1 ≡ Some (text.TooDeep statement)) × (line ≡ too_deep_line this.0 statement)
-HasFault earlier this NotBuilt line = (statement : ℕ) × IsUnbuiltAt earlier this statement × (line ≡ not_built_line this.0 statement)
+HasFault earlier this Misread line = IsMisread earlier this line
+HasFault earlier this NotBuilt line = IsUnbuilt earlier this line
 
 -- the first kind of fault that it has
 abbrev pub First : (Kind → List ℕ → Type 0) → List Kind → List ℕ → Type 0

@@ -2,10 +2,7 @@ pub mod CommandLine
 pub mod Lines
 pub mod TinyText
 pub mod Built
-pub mod ThinReading
-pub mod Small
 pub mod Cut
-pub mod ThinFinding
 pub mod Faults
 pub mod Judging
 pub mod Plan

@@ -1,6 +1,14 @@
 -- The lines that say why a command put nothing out, and the status of each.
-use Rattle.std.specs.Prelude.{ℕ, List, [], ◌∷◌, ◌++◌, codes, string_bytes}
+use Rattle.std.specs.Prelude.{ℕ, List, [], ◌∷◌, ◌++◌, Option, Some, None, codes, string_bytes}
 use Rattle.std.specs.Fmt.{decimal}
+use Rattle.sb_text.specs.declared.token.TextFault.{TextFault}
+use Rattle.sb_text.specs.declared.token.TextFault.TheVariants as text
+use Rattle.star_model.specs.declared.faults.LimitKind.{LimitKind}
+use Rattle.star_model.specs.declared.faults.LimitKind.TheVariants as limit
+use Rattle.catalogue.specs.declared.fault.CatFault.{CatFault}
+use Rattle.catalogue.specs.declared.fault.CatFault.TheVariants as catalogues
+use Rattle.query_graph.specs.declared.fault.QueryFault.{QueryFault}
+use Rattle.query_graph.specs.declared.fault.QueryFault.TheVariants as queries
 use Rattle.stars_core.specs.declared.refusal.TextKind.{TextKind}
 use Rattle.stars_core.specs.declared.refusal.TextKind.TheVariants.{Rules, Catalogue, Query}
 use Rattle.stars_core.specs.declared.refusal.Refusal.{Refusal}
@@ -28,6 +36,67 @@ too_deep_line kind statement = statement_line kind statement (codes "is too deep
 
 abbrev pub not_built_line : TextKind → ℕ → List ℕ
 not_built_line kind statement = statement_line kind statement (codes "is not built yet")
+
+abbrev pub syntax_line : TextKind → ℕ → List ℕ
+syntax_line kind statement = statement_line kind statement (codes "is not understood")
+
+abbrev pub unknown_line : TextKind → ℕ → List ℕ
+unknown_line kind statement = prefix kind ++ codes "unknown name in statement " ++ decimal statement ++ 10 ∷ []
+
+abbrev pub twice_line : TextKind → ℕ → List ℕ
+twice_line kind statement = prefix kind ++ codes "name defined twice in statement " ++ decimal statement ++ 10 ∷ []
+
+abbrev pub limit_word : LimitKind → List ℕ
+limit_word limit.Number = codes "Number"
+limit_word limit.Name = codes "Name"
+limit_word limit.File = codes "File"
+limit_word limit.Params = codes "Params"
+limit_word limit.Alternatives = codes "Alternatives"
+limit_word limit.ForAlls = codes "ForAlls"
+limit_word limit.Stars = codes "Stars"
+limit_word limit.Depth = codes "Depth"
+limit_word limit.Formula = codes "Formula"
+limit_word limit.Sites = codes "Sites"
+limit_word limit.Tables = codes "Tables"
+limit_word limit.Columns = codes "Columns"
+limit_word limit.Indexes = codes "Indexes"
+limit_word limit.IndexColumns = codes "IndexColumns"
+limit_word limit.Quantifiers = codes "Quantifiers"
+limit_word limit.Predicates = codes "Predicates"
+limit_word limit.Select = codes "Select"
+limit_word limit.OrderBy = codes "OrderBy"
+
+abbrev pub limit_line : TextKind → ℕ → LimitKind → List ℕ
+limit_line kind statement what = prefix kind ++ codes "limit " ++ limit_word what ++ codes " in statement " ++ decimal statement ++ 10 ∷ []
+
+-- by the number of the predicate, from 1
+abbrev pub clash_line : ℕ → List ℕ
+clash_line predicate = prefix Query ++ codes "predicate " ++ decimal predicate ++ codes " compares two types" ++ 10 ∷ []
+
+-- The line of each fault; want of memory is none of a text.
+abbrev pub rules_line : TextFault → Option (List ℕ)
+rules_line (text.Lexical offset) = Some (lexical_line Rules offset)
+rules_line (text.TooDeep statement) = Some (too_deep_line Rules statement)
+rules_line text.Memory = None
+
+abbrev pub catalogue_line : CatFault → Option (List ℕ)
+catalogue_line (catalogues.Lexical offset) = Some (lexical_line Catalogue offset)
+catalogue_line (catalogues.TooDeep statement) = Some (too_deep_line Catalogue statement)
+catalogue_line (catalogues.Syntax statement) = Some (syntax_line Catalogue statement)
+catalogue_line (catalogues.Unknown statement) = Some (unknown_line Catalogue statement)
+catalogue_line (catalogues.Twice statement) = Some (twice_line Catalogue statement)
+catalogue_line (catalogues.Limit statement what) = Some (limit_line Catalogue statement what)
+catalogue_line catalogues.Memory = None
+
+abbrev pub query_line : QueryFault → Option (List ℕ)
+query_line (queries.Lexical offset) = Some (lexical_line Query offset)
+query_line (queries.TooDeep statement) = Some (too_deep_line Query statement)
+query_line (queries.Syntax statement) = Some (syntax_line Query statement)
+query_line (queries.Unknown statement) = Some (unknown_line Query statement)
+query_line (queries.Twice statement) = Some (twice_line Query statement)
+query_line (queries.Limit statement what) = Some (limit_line Query statement what)
+query_line (queries.TypeClash predicate) = Some (clash_line predicate)
+query_line queries.Memory = None
 
 abbrev pub cannot_read : List ℕ → List ℕ
 cannot_read name = codes "cannot read " ++ name ++ 10 ∷ []

@@ -1,25 +1,16 @@
-// Which texts have a reader.
-ghost use Rattle.std.specs.Prelude.{◌≡◌, ◌↔◌, ◌<◌, ◌^◌, ℕ, List, [], ◌∷◌, length, map, codes, string_bytes, IfOk, IsTrue, MatchResult, MatchOption, IfSome, ◌≤◌};
+// How a rule file differs from the tiny rules.
+ghost use Rattle.std.specs.Prelude.{◌≡◌, ◌↔◌, ◌<◌, ◌^◌, length, map, IfOk, IsTrue, MatchOption, IfSome, ◌≤◌};
 ghost use Rattle.sb_text.specs.Statements.{parts, part_of};
 ghost use Rattle.sb_text.specs.Refusal.{AreTokens};
 ghost use Rattle.spelling.specs.Lexemes.{Every, lexemes_of};
 ghost use Rattle.spelling.specs.Cursors.{AreTokensOf};
-ghost use Rattle.spelling.specs.Catalogues.{TablePart, table_from};
-ghost use Rattle.star_model.specs.declared.catalogue.SiteDef.{SiteDef};
-ghost use Rattle.stars_core.specs.Built.{Given, DifferAt};
-ghost use Rattle.stars_core.specs.declared.refusal.TextKind.TheVariants.{Rules};
-ghost use Rattle.stars_core.specs.Judging.{Tokenised, CatalogueRead, QueryRead, UnbuiltCatalogue, UnbuiltQuery};
-ghost use Rattle.heap_plan.specs.Small.{small_catalogue};
-ghost use Rattle.stars_core.specs.Small.{IsSmallCatalogue};
+ghost use Rattle.stars_core.specs.Built.{DifferAt};
+ghost use Rattle.stars_core.specs.Judging.{Tokenised};
 ghost use Rattle.stars_core.specs.TinyText.{tiny_text};
-ghost use Rattle.stars_core.specs.Cut.{IsCut, IsOf, AnswersBuilt, SelectsWhere, said_of, said_by};
+ghost use Rattle.stars_core.specs.Cut.{IsCut, IsOf, DiffersFromTiny, said_of, said_by};
 
-use crate::small::{is_reserved, small_catalogue, small_query};
-use crate::thin::{BuiltTable, built_site, built_table, selects};
 use sb_text::{Statement, TextFault, Token, statements, tokens};
 use spelling::same_lexeme;
-use star_model::catalogue::{Catalogue, ColumnDef, TableDef};
-use star_model::query::Query;
 use std::alloc::{AllocError, Global};
 
 const TINY_RULES: &str = "cost ACCESS_HEAP = 10 * pages + cpu * rows;
@@ -129,7 +120,7 @@ fn first_strange_rule(
 ) -> Option<u32>
     requires statements { IsCut source.now statements.now }
     requires tiny { IsCut tiny_text tiny.now }
-    ensures { (earlier : List Given) → AnswersBuilt earlier (Rules, source.now) result }
+    ensures { DiffersFromTiny source.now result }
 {
     match first_difference(source, statements, tiny_text(), tiny) {
         Some(place) => Some(place as u32 + 1),
@@ -137,94 +128,17 @@ fn first_strange_rule(
     }
 }
 
-/// The number of the first statement of a rule file that has no reader, where one has none.
+/// The number of the first statement of a rule file that differs from the tiny rules, where one does.
 pub fn unbuilt_rules(
     alloc: Global,
     source: &[u8],
     statements: &[Statement<'_>],
 ) -> Result<Option<u32>, AllocError>
     requires { IsCut source.now statements.now }
-    ensures { IfOk result (λ answer. (earlier : List Given) → AnswersBuilt earlier (Rules, source.now) answer) }
+    ensures { IfOk result (λ answer. DiffersFromTiny source.now answer) }
 {
     let tokens = tiny_tokens(alloc)?;
     let tiny = cut(alloc, tiny_text(), tokens.as_slice())?;
     let answer = first_strange_rule(source, statements, tiny.as_slice());
     Ok(answer)
-}
-
-/// What a catalogue says, or the number of its first statement that has no reader.
-pub fn read_catalogue(
-    alloc: Global,
-    source: &[u8],
-    statements: &[Statement<'_>],
-) -> Result<Result<Catalogue, u32>, AllocError>
-    requires { IsCut source.now statements.now }
-    ensures { IfOk result (λ found. MatchResult found (CatalogueRead source.now) (UnbuiltCatalogue source.now)) }
-{
-    let Some(site) = built_site(source, statements) else {
-        return Ok(Err(1));
-    };
-    let table = built_table(alloc, source, statements, &site)?;
-    let Some(BuiltTable { words, file }) = table else {
-        return Ok(Err(2));
-    };
-    if statements.len() > 2 {
-        return Ok(Err(3));
-    }
-    let catalogue = small_catalogue(alloc, &site, &words, file)?;
-    Ok(Ok(catalogue))
-}
-
-// The one table of a catalogue.
-fn the_table(catalogue: &Catalogue) -> &TableDef
-    requires { IsSmallCatalogue catalogue.now }
-    ensures { (s : SiteDef) (t : TablePart) → catalogue.now ≡ small_catalogue s t → result.now ≡ table_from 0 t }
-{
-    &catalogue.tables.as_slice()[0]
-}
-
-// The one column of a table.
-fn the_column(table: &TableDef) -> &ColumnDef
-    requires { length table.now.columns ≡ 1 }
-    ensures { table.now.columns ≡ result.now ∷ [] }
-{
-    &table.columns.as_slice()[0]
-}
-
-// Whether the first statement selects the column of the one table of this catalogue.
-fn selects_the_column(source: &[u8], statements: &[Statement<'_>], catalogue: &Catalogue) -> bool
-    requires statements { Every (IsOf source.now) statements.now }
-    requires catalogue { IsSmallCatalogue catalogue.now }
-    ensures { SelectsWhere (said_by source.now statements.now) catalogue.now result }
-{
-    let table = the_table(catalogue);
-    let column = the_column(table);
-    !is_reserved(table.name.as_slice())
-        && selects(
-            source,
-            statements,
-            table.name.as_slice(),
-            column.name.as_slice(),
-        )
-}
-
-/// What a query over this catalogue says, or the number of its first statement that has no reader.
-pub fn read_query(
-    alloc: Global,
-    catalogue: Catalogue,
-    source: &[u8],
-    statements: &[Statement<'_>],
-) -> Result<Result<Query, u32>, AllocError>
-    requires cut { IsCut source.now statements.now }
-    requires catalogue { IsSmallCatalogue catalogue }
-    ensures { IfOk result (λ found. MatchResult found (QueryRead catalogue source.now) (UnbuiltQuery catalogue source.now)) }
-{
-    if !selects_the_column(source, statements, &catalogue) {
-        return Ok(Err(1));
-    }
-    if statements.len() > 1 {
-        return Ok(Err(2));
-    }
-    let query = small_query(alloc, catalogue)?;
-    Ok(Ok(query))
 }

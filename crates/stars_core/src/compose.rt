@@ -27,7 +27,7 @@ fn plan<S: Shelf>(
     let catalogue_text = fetch(alloc, shelf, TextKind::Catalogue, catalogue)?;
     let tree = judge_catalogue(alloc, catalogue_text.as_slice())?;
     let query_text = fetch(alloc, shelf, TextKind::Query, query)?;
-    let selection = judge_query(alloc, tree, query_text.as_slice())?;
+    let selection = judge_query(alloc, &tree, query_text.as_slice())?;
     let answer = plan_query(alloc, &selection)?;
     Ok(answer)
 }

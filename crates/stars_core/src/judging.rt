@@ -1,79 +1,64 @@
 // The judgement of one text.
-ghost use Rattle.std.specs.Prelude.{◌≡◌, ◌++◌, ◌≤◌, ℕ, List, IfOk, [], ◌∷◌, length, string_bytes, MatchResult};
-ghost use Rattle.stars_core.specs.Lines.{lexical_line, statement_line, too_deep_line, not_built_line};
-ghost use Rattle.stars_core.specs.Built.{Given};
-ghost use Rattle.stars_core.specs.Faults.{Stops};
-ghost use Rattle.stars_core.specs.Judging.{TokensOf, Tokenised, Refuses, JudgedRules, JudgedCatalogue, JudgedQuery};
-ghost use Rattle.stars_core.specs.Small.{IsSmallCatalogue};
+ghost use Rattle.std.specs.Prelude.{◌≡◌, Some};
+ghost use Rattle.star_model.specs.WellFormed.{WellFormedCatalogue};
+ghost use Rattle.stars_core.specs.Lines.{not_built_line, rules_line, catalogue_line, query_line};
+ghost use Rattle.stars_core.specs.Judging.{Tokenised, Refuses, SizeJudged, JudgedRules, JudgedCatalogue, JudgedQuery};
 
-use crate::built::{cut, read_catalogue, read_query, unbuilt_rules};
-use crate::read::{LIMIT, prefix, too_long_line};
+use crate::built::{cut, unbuilt_rules};
+use crate::lines::{catalogue_line, not_built_line, query_line, rules_line, too_long_line};
+use crate::read::LIMIT;
 use crate::{Refusal, TextKind};
+use catalogue::{CatFault, read_catalogue};
+use heap_plan::is_small;
+use query_graph::{QueryFault, read_query};
 use sb_text::{TextFault, Token, tokens};
 use star_model::catalogue::Catalogue;
 use star_model::query::Query;
-use std::alloc::{AllocError, Global};
+use std::alloc::Global;
 
-fn lexical_line(alloc: Global, kind: TextKind, offset: u32) -> Result<String, AllocError>
-    ensures { IfOk result (λ line. string_bytes line ≡ lexical_line kind offset) }
-{
-    let prefix = prefix(kind);
-    format!(in alloc; "{prefix}no token at byte {offset}\n")
-}
-
-// What is said of a statement, by its number from 1.
-fn statement_line(
-    alloc: Global,
-    kind: TextKind,
-    statement: u32,
-    said: &str,
-) -> Result<String, AllocError>
-    ensures { IfOk result (λ line. string_bytes line ≡ statement_line kind statement said.now) }
-{
-    let prefix = prefix(kind);
-    let mut line = format!(in alloc; "{prefix}statement {statement} ")?;
-    line.push_str(said)?;
-    line.push_str("\n")?;
-    Ok(line)
-}
-
-fn too_deep_line(alloc: Global, kind: TextKind, statement: u32) -> Result<String, AllocError>
-    ensures { IfOk result (λ line. string_bytes line ≡ too_deep_line kind statement) }
-{
-    statement_line(alloc, kind, statement, "is too deep")
-}
-
-fn not_built_line(alloc: Global, kind: TextKind, statement: u32) -> Result<String, AllocError>
-    ensures { IfOk result (λ line. string_bytes line ≡ not_built_line kind statement) }
-{
-    statement_line(alloc, kind, statement, "is not built yet")
-}
-
-// The tokens of a text, or the first of the faults that every text may have.
-fn tokens_of(alloc: Global, kind: TextKind, bytes: &[u8]) -> Result<Vec<Token>, Refusal>
-    ensures { TokensOf kind bytes.now result }
+// Refuses a text that is longer than texts may be.
+fn check_size(alloc: Global, kind: TextKind, bytes: &[u8]) -> Result<(), Refusal>
+    ensures { SizeJudged kind bytes.now result }
 {
     if bytes.len() > LIMIT {
         return Err(Refusal::Refused(kind, too_long_line(alloc, kind)?));
     }
-    match tokens(alloc, bytes) {
-        Ok(tokens) => Ok(tokens),
-        Err(TextFault::Lexical(offset)) => {
-            Err(Refusal::Refused(kind, lexical_line(alloc, kind, offset)?))
-        }
-        Err(TextFault::TooDeep(statement)) => {
-            Err(Refusal::Refused(kind, too_deep_line(alloc, kind, statement)?))
-        }
-        Err(TextFault::Memory) => Err(Refusal::Memory),
-    }
+    Ok(())
 }
 
-// The refusal of a text for a statement that has no reader, by its number from 1.
+// The refusal of a text for a statement that has no planner, by its number from 1.
 fn unbuilt(alloc: Global, kind: TextKind, statement: u32) -> Refusal
     ensures { Refuses kind (λ line. line ≡ not_built_line kind statement) result }
 {
     match not_built_line(alloc, kind, statement) {
         Ok(line) => Refusal::Refused(kind, line),
+        Err(_) => Refusal::Memory,
+    }
+}
+
+fn misread_rules(alloc: Global, fault: TextFault) -> Refusal
+    ensures { Refuses TextKind.Rules (λ line. rules_line fault ≡ Some line) result }
+{
+    match rules_line(alloc, fault) {
+        Ok(line) => Refusal::Refused(TextKind::Rules, line),
+        Err(_) => Refusal::Memory,
+    }
+}
+
+fn misread_catalogue(alloc: Global, fault: CatFault) -> Refusal
+    ensures { Refuses TextKind.Catalogue (λ line. catalogue_line fault ≡ Some line) result }
+{
+    match catalogue_line(alloc, fault) {
+        Ok(line) => Refusal::Refused(TextKind::Catalogue, line),
+        Err(_) => Refusal::Memory,
+    }
+}
+
+fn misread_query(alloc: Global, fault: QueryFault) -> Refusal
+    ensures { Refuses TextKind.Query (λ line. query_line fault ≡ Some line) result }
+{
+    match query_line(alloc, fault) {
+        Ok(line) => Refusal::Refused(TextKind::Query, line),
         Err(_) => Refusal::Memory,
     }
 }
@@ -95,24 +80,10 @@ fn judge_rule_tokens(alloc: Global, bytes: &[u8], tokens: &[Token]) -> Result<()
 pub fn judge_rules(alloc: Global, bytes: &[u8]) -> Result<(), Refusal>
     ensures { JudgedRules bytes.now result }
 {
-    let tokens = tokens_of(alloc, TextKind::Rules, bytes)?;
-    judge_rule_tokens(alloc, bytes, tokens.as_slice())
-}
-
-// The catalogue that a text with these tokens says.
-fn judge_catalogue_tokens(
-    alloc: Global,
-    bytes: &[u8],
-    tokens: &[Token],
-) -> Result<Catalogue, Refusal>
-    requires { Tokenised bytes.now tokens.now }
-    ensures { JudgedCatalogue bytes.now result }
-{
-    let statements = cut(alloc, bytes, tokens)?;
-    let read = read_catalogue(alloc, bytes, statements.as_slice())?;
-    match read {
-        Ok(catalogue) => Ok(catalogue),
-        Err(statement) => Err(unbuilt(alloc, TextKind::Catalogue, statement)),
+    check_size(alloc, TextKind::Rules, bytes)?;
+    match tokens(alloc, bytes) {
+        Ok(tokens) => judge_rule_tokens(alloc, bytes, tokens.as_slice()),
+        Err(fault) => Err(misread_rules(alloc, fault)),
     }
 }
 
@@ -120,34 +91,26 @@ fn judge_catalogue_tokens(
 pub fn judge_catalogue(alloc: Global, bytes: &[u8]) -> Result<Catalogue, Refusal>
     ensures { JudgedCatalogue bytes.now result }
 {
-    let tokens = tokens_of(alloc, TextKind::Catalogue, bytes)?;
-    judge_catalogue_tokens(alloc, bytes, tokens.as_slice())
-}
-
-// The query over a catalogue that a text with these tokens says.
-fn judge_query_tokens(
-    alloc: Global,
-    catalogue: Catalogue,
-    bytes: &[u8],
-    tokens: &[Token],
-) -> Result<Query, Refusal>
-    requires tokens { Tokenised bytes.now tokens.now }
-    requires catalogue { IsSmallCatalogue catalogue }
-    ensures { JudgedQuery catalogue bytes.now result }
-{
-    let statements = cut(alloc, bytes, tokens)?;
-    let read = read_query(alloc, catalogue, bytes, statements.as_slice())?;
-    match read {
-        Ok(query) => Ok(query),
-        Err(statement) => Err(unbuilt(alloc, TextKind::Query, statement)),
+    check_size(alloc, TextKind::Catalogue, bytes)?;
+    match read_catalogue(alloc, bytes) {
+        Ok(catalogue) => Ok(catalogue),
+        Err(fault) => Err(misread_catalogue(alloc, fault)),
     }
 }
 
-/// The query over a catalogue that a text says, or its first fault.
-pub fn judge_query(alloc: Global, catalogue: Catalogue, bytes: &[u8]) -> Result<Query, Refusal>
-    requires { IsSmallCatalogue catalogue }
-    ensures { JudgedQuery catalogue bytes.now result }
+/// The query over a catalogue that a text says, or its first fault. One that passes has a planner.
+pub fn judge_query(alloc: Global, catalogue: &Catalogue, bytes: &[u8]) -> Result<Query, Refusal>
+    requires { WellFormedCatalogue catalogue.now }
+    ensures { JudgedQuery catalogue.now bytes.now result }
 {
-    let tokens = tokens_of(alloc, TextKind::Query, bytes)?;
-    judge_query_tokens(alloc, catalogue, bytes, tokens.as_slice())
+    check_size(alloc, TextKind::Query, bytes)?;
+    match read_query(alloc, catalogue, bytes) {
+        Ok(query) => {
+            if !is_small(&query) {
+                return Err(unbuilt(alloc, TextKind::Query, 1));
+            }
+            Ok(query)
+        }
+        Err(fault) => Err(misread_query(alloc, fault)),
+    }
 }

@@ -7,13 +7,12 @@ mod command;
 mod compose;
 mod judging;
 mod laws;
+mod lines;
 mod plan;
 mod read;
 mod refusal;
-mod small;
 mod status;
 mod texts;
-mod thin;
 mod top;
 
 pub use answer::Answer;

@@ -1,32 +1,16 @@
 // The fetching of one file.
 ghost use Rattle.std.specs.Prelude.{◌≡◌, ◌++◌, IfOk, string_bytes};
 ghost use Rattle.sb_outside.specs.Shelf.{Goes};
-ghost use Rattle.stars_core.specs.Lines.{prefix, too_long_line, cannot_read};
+ghost use Rattle.stars_core.specs.Lines.{cannot_read};
 ghost use Rattle.stars_core.specs.Shelves.{Fetched};
 
+use crate::lines::too_long_line;
 use crate::{Refusal, TextKind};
 use sb_outside::{Shelf, ShelfFault};
 use std::alloc::{AllocError, Global};
 
 /// The greatest length of a text, in bytes.
 pub const LIMIT: usize = 1_048_576;
-
-pub fn prefix(kind: TextKind) -> &'static str
-    ensures { result.now ≡ prefix kind }
-{
-    match kind {
-        TextKind::Rules => "rules: ",
-        TextKind::Catalogue => "catalogue: ",
-        TextKind::Query => "query: ",
-    }
-}
-
-pub fn too_long_line(alloc: Global, kind: TextKind) -> Result<String, AllocError>
-    ensures { IfOk result (λ line. string_bytes line ≡ too_long_line kind) }
-{
-    let prefix = prefix(kind);
-    format!(in alloc; "{prefix}longer than 1048576 bytes\n")
-}
 
 fn unread_line(alloc: Global, name: &str) -> Result<String, AllocError>
     ensures { IfOk result (λ line. string_bytes line ≡ cannot_read name.now) }

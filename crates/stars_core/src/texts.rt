@@ -18,7 +18,7 @@ pub fn plan_texts(
 {
     judge_rules(alloc, rules)?;
     let tree = judge_catalogue(alloc, catalogue)?;
-    let query = judge_query(alloc, tree, query)?;
+    let query = judge_query(alloc, &tree, query)?;
     let answer = plan_query(alloc, &query)?;
     Ok(answer)
 }

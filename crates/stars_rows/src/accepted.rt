@@ -1,6 +1,7 @@
 // Rule files, catalogues and queries that have a plan.
 use crate::runs::plan;
-use crate::texts::{DERIVATION, NAME_64, SELECTION, TABLE, TINY};
+use crate::texts::{DERIVATION, SELECTION, STAFF, TABLE, TINY};
+use std::alloc::{AllocError, Global};
 use std::test::Fail;
 
 // The smallest texts as they stand, byte for byte.
@@ -20,102 +21,70 @@ err: ";
 }
 
 // Changes of the smallest catalogue, and the numbers of the plan.
+const CHANGES: &str = "rows 0 pages 0 => rows 1000 pages 50 => cost 1500 rescan 1500 card 1000
+rows 0 pages 0 => rows 01000 pages 0000000000000000050 => cost 1500 rescan 1500 card 1000
+cpu 1 net 1; table t at hq rows 0 pages 0 => cpu 7 net 9; table t at hq rows 3 pages 2 => cost 41 rescan 41 card 3
+rows 0 => rows 1000000000000000000 => cost 1000000000000000000 rescan 1000000000000000000 card 1000000000000000000
+pages 0 => pages 1000000000000000000 => cost 1000000000000000000 rescan 1000000000000000000 card 0
+pages 0 => pages 99999999999999999 => cost 999999999999999990 rescan 999999999999999990 card 0
+width 8 distinct 0 => width 0 distinct 1000000000000000000 => cost 0 rescan 0 card 0
+a int => a text => cost 0 rescan 0 card 0
+t.csv => it''s => cost 0 rescan 0 card 0
+t.csv => '' => cost 0 rescan 0 card 0
+hq => select => cost 0 rescan 0 card 0
+distinct 0); => distinct 0, b text width 8 distinct 0); => cost 0 rescan 0 card 0
+distinct 0); => distinct 0); index i on t (a) pages 3; => cost 0 rescan 0 card 0
+distinct 0); => distinct 0); # the end of the text => cost 0 rescan 0 card 0
+site hq cpu 1 net 1; => site b cpu 3 net 1; site hq cpu 2 net 1; table u at b rows 9 pages 9 file 'u' (a int width 1 distinct 1); => cost 0 rescan 0 card 0
+hq cpu 1 net 1; table t at hq rows 0 => b cpu 3 net 1; site hq cpu 2 net 1; table t at b rows 5 => cost 15 rescan 15 card 5";
+
+// What a run prints for a plan with these numbers.
+fn planned(alloc: Global, numbers: &str) -> Result<String, AllocError> {
+    format!(in alloc; "Done, calls 3\nout: # {numbers}\n{DERIVATION}\nerr: ")
+}
+
 #[test]
 fn plans_by_the_catalogue(rt: HostRuntime) -> Result<(), Fail> {
     let alloc = rt.alloc();
-    let nothing = "cost 0 rescan 0 card 0";
-    let rows = [
-        (
-            "rows 0 pages 0",
-            "rows 1000 pages 50",
-            "cost 1500 rescan 1500 card 1000",
-        ),
-        (
-            "rows 0 pages 0",
-            "rows 01000 pages 0000000000000000050",
-            "cost 1500 rescan 1500 card 1000",
-        ),
-        (
-            "cpu 1 net 1; table t at hq rows 0 pages 0",
-            "cpu 7 net 9; table t at hq rows 3 pages 2",
-            "cost 41 rescan 41 card 3",
-        ),
-        (
-            "rows 0",
-            "rows 1000000000000000000",
-            "cost 1000000000000000000 rescan 1000000000000000000 card 1000000000000000000",
-        ),
-        (
-            "pages 0",
-            "pages 1000000000000000000",
-            "cost 1000000000000000000 rescan 1000000000000000000 card 0",
-        ),
-        (
-            "pages 0",
-            "pages 99999999999999999",
-            "cost 999999999999999990 rescan 999999999999999990 card 0",
-        ),
-        (
-            "width 8 distinct 0",
-            "width 0 distinct 1000000000000000000",
-            nothing,
-        ),
-        ("a int", "a text", nothing),
-        ("t.csv", "it''s", nothing),
-        ("t.csv", "''", nothing),
-        ("hq", NAME_64, nothing),
-        ("hq", "select", nothing),
-        ("; ", " ; # the end of a statement\r\n", nothing),
-        (" ", "\r\n\t", nothing),
-        (
-            "distinct 0);",
-            "distinct 0); # the end of the text",
-            nothing,
-        ),
-    ];
-    for (old, new, numbers) in rows {
+    for row in CHANGES.lines() {
+        let (old, rest) = row.split_once(" => ").ok_or("no change")?;
+        let (new, numbers) = rest.split_once(" => ").ok_or("no numbers")?;
         let catalogue = TABLE.replace(alloc, old, new)?;
         let told = plan(alloc, TINY, catalogue.as_str(), SELECTION)?;
-        let wanted = format!(in alloc; "Done, calls 3\nout: # {numbers}\n{DERIVATION}\nerr: ")?;
-        assert_eq!(rt; told.as_str(), wanted.as_str(), "{new} for {old}");
+        let wanted = planned(alloc, numbers)?;
+        assert_eq!(rt; told.as_str(), wanted.as_str(), "{row}");
     }
     Ok(())
 }
 
-// Names that the catalogue and the query use.
+// Queries of one table, and the numbers of their plans.
+const QUERIES: &str = "select e.id from emp e; => cost 2000 rescan 2000 card 1000
+select emp.id from emp; => cost 2000 rescan 2000 card 1000
+select emp.name, emp.id, emp.name from emp; => cost 2000 rescan 2000 card 1000
+select emp.city from dept emp; => cost 20 rescan 20 card 10
+select dept.id from dept dept; => cost 20 rescan 20 card 10
+select Select.id from dept Select; => cost 20 rescan 20 card 10";
+
 #[test]
-fn plans_by_names(rt: HostRuntime) -> Result<(), Fail> {
+fn plans_queries_of_one_table(rt: HostRuntime) -> Result<(), Fail> {
     let alloc = rt.alloc();
-    let names = [
-        ("t", "a"),
-        (NAME_64, NAME_64),
-        ("t", "t"),
-        ("site", "select"),
-        ("table", "from"),
-        ("Select", "_1"),
-    ];
-    for (table, column) in names {
-        let catalogue = format!(in alloc;
-            "site s cpu 1 net 1; table {table} at s rows 2 pages 3 file 'f' ({column} int width 1 distinct 1);"
-        )?;
-        let query = format!(in alloc; "select {table}.{column} from {table};")?;
-        let told = plan(alloc, TINY, catalogue.as_str(), query.as_str())?;
-        let wanted = format!(in alloc;
-            "Done, calls 3\nout: # cost 32 rescan 32 card 2\n{DERIVATION}\nerr: "
-        )?;
-        assert_eq!(rt; told.as_str(), wanted.as_str(), "{table}.{column}");
+    for row in QUERIES.lines() {
+        let (query, numbers) = row.split_once(" => ").ok_or("no numbers")?;
+        let told = plan(alloc, TINY, STAFF, query)?;
+        let wanted = planned(alloc, numbers)?;
+        assert_eq!(rt; told.as_str(), wanted.as_str(), "{row}");
     }
     Ok(())
 }
 
-// Changes of the layout of the smallest rules and of the query.
+// Changes of the layout of the smallest texts.
 #[test]
 fn plans_by_tokens(rt: HostRuntime) -> Result<(), Fail> {
     let alloc = rt.alloc();
     let changes = [
         ("\n", "\r\n"),
         ("\n", " "),
-        (" ", "\n\n\t"),
+        (" ", "\r\n\n\t"),
         ("4", "0004"),
         (";", " ; # it's (\n"),
         ("10 ", "0000000000000000010"),
@@ -123,11 +92,10 @@ fn plans_by_tokens(rt: HostRuntime) -> Result<(), Fail> {
     ];
     for (old, new) in changes {
         let rules = TINY.replace(alloc, old, new)?;
+        let catalogue = TABLE.replace(alloc, old, new)?;
         let query = SELECTION.replace(alloc, old, new)?;
-        let told = plan(alloc, rules.as_str(), TABLE, query.as_str())?;
-        let wanted = format!(in alloc;
-            "Done, calls 3\nout: # cost 0 rescan 0 card 0\n{DERIVATION}\nerr: "
-        )?;
+        let told = plan(alloc, rules.as_str(), catalogue.as_str(), query.as_str())?;
+        let wanted = planned(alloc, "cost 0 rescan 0 card 0")?;
         assert_eq!(rt; told.as_str(), wanted.as_str(), "{new} for {old}");
     }
     Ok(())

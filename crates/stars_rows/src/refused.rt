@@ -1,24 +1,40 @@
-// Rule files, catalogues and queries that are refused, each by its first fault.
+// Rule files, catalogues and queries that are refused, each by its first fault. The crate `text_rows` has the rows of all the faults of
+// catalogues and queries.
 use crate::runs::{NO_FAULTS, plan, run};
 use crate::texts::{
-    DERIVATION, FIRST_RULE, NAME_64, NAME_65, SELECTION, STANDARD, TABLE, TINY, lengthened, nested,
+    DERIVATION, FIRST_RULE, SELECTION, STAFF, STANDARD, TABLE, TINY, lengthened, nested,
 };
 use std::test::Fail;
+
+// Rule files alone.
+const RULES: &str = "cost SORT = cost1 ? 2; => no token at byte 18
+' => no token at byte 0
+'a''b => no token at byte 3
+12345678901234567890; => no token at byte 0
+1234567890123456789; => statement 1 is not built yet
+a < b <= c <> d <>= e; => statement 1 is not built yet
+cost SORT = 1; # it's => statement 1 is not built yet
+ => statement 1 is not built yet
+# nothing => statement 1 is not built yet
+; => statement 1 is not built yet";
 
 #[test]
 fn refuses_rules(rt: HostRuntime) -> Result<(), Fail> {
     let alloc = rt.alloc();
+    for row in RULES.lines() {
+        let (rules, fault) = row.split_once(" => ").ok_or("no fault")?;
+        let told = plan(alloc, rules, TABLE, SELECTION)?;
+        let wanted = format!(in alloc; "RulesRefused, calls 1\nout: \nerr: rules: {fault}\n")?;
+        assert_eq!(rt; told.as_str(), wanted.as_str(), "{row}");
+    }
+    Ok(())
+}
+
+// Rule files in two parts.
+#[test]
+fn refuses_other_rules(rt: HostRuntime) -> Result<(), Fail> {
+    let alloc = rt.alloc();
     let rows = [
-        ("", "cost SORT = cost1 ? 2;", "no token at byte 18"),
-        ("", "'", "no token at byte 0"),
-        ("", "'a''b", "no token at byte 3"),
-        ("", "12345678901234567890;", "no token at byte 0"),
-        ("", "1234567890123456789;", "statement 1 is not built yet"),
-        ("", "a < b <= c <> d <>= e;", "statement 1 is not built yet"),
-        ("", "cost SORT = 1; # it's", "statement 1 is not built yet"),
-        ("", "", "statement 1 is not built yet"),
-        ("", "# nothing", "statement 1 is not built yet"),
-        ("", ";", "statement 1 is not built yet"),
         (FIRST_RULE, "", "statement 1 is not built yet"),
         (FIRST_RULE, ";", "statement 2 is not built yet"),
         ("", STANDARD, "statement 3 is not built yet"),
@@ -37,28 +53,29 @@ fn refuses_rules(rt: HostRuntime) -> Result<(), Fail> {
 }
 
 // Changes of the smallest rules, and the first statement that is not theirs.
+const CHANGES: &str = "10 => 11 => 1
+rescan ACCESS_HEAP => rescan GET => 2
+cost1 + 4 => cost1 - 4 => 3
+rescan1 + 4 * card1; => rescan1 + 4 * card1 => 4
+cost STORE => cost store => 5
+= card1; => = card1; ; => 7
+width1 => width2 => 7
+rescan1 + net => rescan1 + (net) => 8
+A stream => A quants => 9
+B stream => C stream => 10";
+
 #[test]
 fn refuses_changed_rules(rt: HostRuntime) -> Result<(), Fail> {
     let alloc = rt.alloc();
-    let rows = [
-        ("10", "11", 1),
-        ("rescan ACCESS_HEAP", "rescan GET", 2),
-        ("cost1 + 4", "cost1 - 4", 3),
-        ("rescan1 + 4 * card1;", "rescan1 + 4 * card1", 4),
-        ("cost STORE", "cost store", 5),
-        ("= card1;", "= card1; ;", 7),
-        ("width1", "width2", 7),
-        ("rescan1 + net", "rescan1 + (net)", 8),
-        ("A stream", "A quants", 9),
-        ("B stream", "C stream", 10),
-    ];
-    for (old, new, statement) in rows {
+    for row in CHANGES.lines() {
+        let (old, rest) = row.split_once(" => ").ok_or("no change")?;
+        let (new, statement) = rest.split_once(" => ").ok_or("no statement")?;
         let rules = TINY.replace(alloc, old, new)?;
         let told = plan(alloc, rules.as_str(), TABLE, SELECTION)?;
         let wanted = format!(in alloc;
             "RulesRefused, calls 1\nout: \nerr: rules: statement {statement} is not built yet\n"
         )?;
-        assert_eq!(rt; told.as_str(), wanted.as_str(), "{new} for {old}");
+        assert_eq!(rt; told.as_str(), wanted.as_str(), "{row}");
     }
     Ok(())
 }
@@ -105,124 +122,51 @@ fn refuses_many_tokens(rt: HostRuntime) -> Result<(), Fail> {
     Ok(())
 }
 
+// Each kind of fault of a catalogue.
+const CATALOGUES: &str = "site 'a => no token at byte 5
+((((((((((((((((((((((((((((((((((; => statement 1 is too deep
+site hq cpu 1 net 1; ; => statement 2 is not understood
+site hq cpu 1 net 1; table t at here rows 0 pages 0 file 't.csv' (a int width 8 distinct 0); => unknown name in statement 2
+site hq cpu 1 net 1; site hq cpu 1 net 1; => name defined twice in statement 2
+site hq cpu 1 net 1000000000000000001; => limit Number in statement 1";
+
 #[test]
 fn refuses_catalogues(rt: HostRuntime) -> Result<(), Fail> {
     let alloc = rt.alloc();
-    let rows = [
-        (TABLE, "", 1),
-        (TABLE, ";", 1),
-        ("cpu 1", "cpu 1000000000000000001", 1),
-        ("net 1", "net 1000000000000000001", 1),
-        ("net 1", "net -1", 1),
-        ("hq", NAME_65, 1),
-        ("site hq cpu 1 net 1;", "", 1),
-        (
-            " table t at hq rows 0 pages 0 file 't.csv' (a int width 8 distinct 0);",
-            "",
-            2,
-        ),
-        ("0);", "0)", 2),
-        ("at hq", "at here", 2),
-        ("rows 0", "rows 1000000000000000001", 2),
-        ("pages 0", "pages 1000000000000000001", 2),
-        ("width 8", "width 1000000000000000001", 2),
-        ("distinct 0", "distinct 1000000000000000001", 2),
-        (
-            "table t",
-            "table nnnnnnnnnnnnnnnnnnnnnnnnnnnnnnnnnnnnnnnnnnnnnnnnnnnnnnnnnnnnnnnnn",
-            2,
-        ),
-        (
-            "a int",
-            "nnnnnnnnnnnnnnnnnnnnnnnnnnnnnnnnnnnnnnnnnnnnnnnnnnnnnnnnnnnnnnnnn int",
-            2,
-        ),
-        ("a int", "a date", 2),
-        ("t.csv", "", 2),
-        ("'t.csv'", "t", 2),
-        ("(a int width 8 distinct 0)", "()", 2),
-        ("0);", "0, b int width 8 distinct 0);", 2),
-        ("0);", "0); ;", 3),
-        ("0);", "0); index x on t (a) pages 1;", 3),
-        ("0);", "0); site", 3),
-    ];
-    for (old, new, statement) in rows {
-        let catalogue = TABLE.replace(alloc, old, new)?;
-        let told = plan(alloc, TINY, catalogue.as_str(), SELECTION)?;
+    for row in CATALOGUES.lines() {
+        let (catalogue, fault) = row.split_once(" => ").ok_or("no fault")?;
+        let told = plan(alloc, TINY, catalogue, SELECTION)?;
         let wanted = format!(in alloc;
-            "CatalogueRefused, calls 2\nout: \nerr: catalogue: statement {statement} is not built yet\n"
+            "CatalogueRefused, calls 2\nout: \nerr: catalogue: {fault}\n"
         )?;
-        assert_eq!(rt; told.as_str(), wanted.as_str(), "{new} for {old}");
+        assert_eq!(rt; told.as_str(), wanted.as_str(), "{row}");
     }
     Ok(())
 }
+
+// Each kind of fault of a query, and queries without a fault that are not built.
+const QUERIES: &str = "select e.id from emp e where e.id != 1; => no token at byte 34
+((((((((((((((((((((((((((((((((((; => statement 1 is too deep
+select e.id from emp e => statement 1 is not understood
+select e.id from emp e; select => statement 2 is not understood
+select e.age from emp e; => unknown name in statement 1
+select e.id from emp e, dept e; => name defined twice in statement 1
+select e.id from emp e where e.id = 9223372036854775808; => limit Number in statement 1
+select e.id from emp e where e.name = 3; => predicate 1 compares two types
+select e.id from emp e where e.dno = 3; => statement 1 is not built yet
+select e.id from emp e order by e.id; => statement 1 is not built yet
+select e.id from emp e at hq; => statement 1 is not built yet
+select e.id from emp e, dept d; => statement 1 is not built yet
+select e.id, d.city from dept d, emp e where e.dno = d.id; => statement 1 is not built yet";
 
 #[test]
 fn refuses_queries(rt: HostRuntime) -> Result<(), Fail> {
     let alloc = rt.alloc();
-    let rows = [
-        ("", "statement 1 is not built yet"),
-        (";", "statement 1 is not built yet"),
-        ("select t.a from t", "statement 1 is not built yet"),
-        ("select t.b from t;", "statement 1 is not built yet"),
-        ("select u.a from u;", "statement 1 is not built yet"),
-        ("select t.a from u;", "statement 1 is not built yet"),
-        ("select t.a from t t;", "statement 1 is not built yet"),
-        ("select t.a, t.a from t;", "statement 1 is not built yet"),
-        (
-            "select t.a from t order by t.a;",
-            "statement 1 is not built yet",
-        ),
-        ("select t.a from t at hq;", "statement 1 is not built yet"),
-        ("select t.a from t;;", "statement 2 is not built yet"),
-        (
-            "select t.a from t; select t.a from t;",
-            "statement 2 is not built yet",
-        ),
-        ("select t.a from t; select", "statement 2 is not built yet"),
-        ("select t.a from t where t.a != 1;", "no token at byte 28"),
-    ];
-    for (query, fault) in rows {
-        let told = plan(alloc, TINY, TABLE, query)?;
+    for row in QUERIES.lines() {
+        let (query, fault) = row.split_once(" => ").ok_or("no fault")?;
+        let told = plan(alloc, TINY, STAFF, query)?;
         let wanted = format!(in alloc; "QueryRefused, calls 3\nout: \nerr: query: {fault}\n")?;
-        assert_eq!(rt; told.as_str(), wanted.as_str(), "{query}");
-    }
-    Ok(())
-}
-
-// A table may have any name in the catalogue, and no query can name one by a word of its own.
-#[test]
-fn refuses_reserved_names(rt: HostRuntime) -> Result<(), Fail> {
-    let alloc = rt.alloc();
-    for name in ["select", "from", "where", "and", "order", "by", "at"] {
-        let catalogue = format!(in alloc;
-            "site s cpu 1 net 1; table {name} at s rows 2 pages 3 file 'f' (a int width 1 distinct 1);"
-        )?;
-        let query = format!(in alloc; "select {name}.a from {name};")?;
-        let told = plan(alloc, TINY, catalogue.as_str(), query.as_str())?;
-        let wanted = "QueryRefused, calls 3\nout: \nerr: query: statement 1 is not built yet\n";
-        assert_eq!(rt; told.as_str(), wanted, "{name}");
-    }
-    Ok(())
-}
-
-// File names of so many letters and doubled quotes, which count once.
-#[test]
-fn counts_bytes_of_file_names(rt: HostRuntime) -> Result<(), Fail> {
-    let alloc = rt.alloc();
-    let rows = [
-        ("x", 255, "Done, calls 3"),
-        ("x", 256, "CatalogueRefused, calls 2"),
-        ("''", 255, "Done, calls 3"),
-        ("''", 256, "CatalogueRefused, calls 2"),
-        ("\u{e9}", 127, "Done, calls 3"),
-        ("\u{e9}", 128, "CatalogueRefused, calls 2"),
-    ];
-    for (unit, count, end) in rows {
-        let name = unit.repeat(alloc, count)?;
-        let catalogue = TABLE.replace(alloc, "t.csv", name.as_str())?;
-        let told = plan(alloc, TINY, catalogue.as_str(), SELECTION)?;
-        assert!(rt; told.as_str().starts_with(end), "{count} times {unit}");
+        assert_eq!(rt; told.as_str(), wanted.as_str(), "{row}");
     }
     Ok(())
 }
@@ -234,7 +178,7 @@ fn refuses_file_names_in_other_bytes(rt: HostRuntime) -> Result<(), Fail> {
     let rules = TINY.as_bytes();
     let query = SELECTION.as_bytes();
     let told = run(rt.alloc(), "plan r c q", rules, catalogue, query, NO_FAULTS)?;
-    let wanted = "CatalogueRefused, calls 2\nout: \nerr: catalogue: statement 2 is not built yet\n";
+    let wanted = "CatalogueRefused, calls 2\nout: \nerr: catalogue: limit File in statement 2\n";
     assert_eq!(rt; told.as_str(), wanted);
     Ok(())
 }

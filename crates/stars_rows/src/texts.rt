@@ -21,6 +21,13 @@ pub const FIRST_RULE: &str = "cost ACCESS_HEAP = 10 * pages + cpu * rows";
 pub const TABLE: &str =
     "site hq cpu 1 net 1; table t at hq rows 0 pages 0 file 't.csv' (a int width 8 distinct 0);";
 
+/// A catalogue of employees and departments.
+pub const STAFF: &str = "site hq cpu 1 net 1;
+table emp at hq rows 1000 pages 100 file 'emp.csv' (id int width 8 distinct 1000, dno int width 8 distinct 10, name text width 20 distinct 1000);
+index emp_dno on emp (dno, id) pages 20;
+table dept at hq rows 10 pages 1 file 'dept.csv' (id int width 8 distinct 10, city text width 12 distinct 5);
+";
+
 /// The query that selects the column.
 pub const SELECTION: &str = "select t.a from t;";
 
@@ -71,12 +78,6 @@ star Keyed(A stream, B stream, J preds, P preds, M preds) =
   | give JOIN_NL(Glue(A, J), PROBE(Glue(B[path keys(M, tables(B))], none), keys(M, tables(B)),
       union(P, meet(J, crossing(tables(B))))), none);
 ";
-
-/// A word of 64 bytes.
-pub const NAME_64: &str = "nnnnnnnnnnnnnnnnnnnnnnnnnnnnnnnnnnnnnnnnnnnnnnnnnnnnnnnnnnnnnnnn";
-
-/// A word of 65 bytes.
-pub const NAME_65: &str = "nnnnnnnnnnnnnnnnnnnnnnnnnnnnnnnnnnnnnnnnnnnnnnnnnnnnnnnnnnnnnnnnn";
 
 /// A number in this many brackets, as a statement.
 pub fn nested(alloc: Global, depth: usize) -> Result<String, AllocError> {

@@ -1,6 +1,6 @@
 use Rattle.std.proofs.lemmas.Result.{err_from_is_err_and}
 use Rattle.spelling.specs.Tiny.{tiny_rules}
-use Rattle.stars_core.proofs.Says.{is_small, says}
+use Rattle.stars_core.proofs.Says.{says}
 use Rattle.stars_core.proofs.ThreeFiles.{rules_unfetched, rules_refused, after_rules, catalogue_unfetched, catalogue_refused, after_catalogue, query_unfetched, query_refused, after_query}
 use Rattle.stars_core.proofs.compose.plan.Goals as goal
 
@@ -50,11 +50,11 @@ returns-in_err-selection-clause-ran g c =
     rw (p.1, p.2) (query_refused (g.S.Shelf.state c.args.shelf.now) c.args.rules.now c.args.catalogue.now c.args.query.now (g.S.Shelf.state c.fetch-2.new.shelf) c.in_ok-rule_text.rule_text.items c.in_ok-catalogue_text.catalogue_text.items second (g.S.Shelf.state c.fetch-3.new.shelf) c.in_ok-tree.tree c.in_ok-query_text.query_text _ catalogue_ok
     c.in_ok-query_text.ensures.goes c.in_ok-query_text.ensures.fetched (rw c.as_slice-3.ensures.value at c.in_err-selection.ensures))
 
+pub judge_query-requires : goal.judge_query-requires
+judge_query-requires g c = let catalogue_ok = rw c.as_slice-2.ensures.value at c.in_ok-tree.ensures in catalogue_ok.read.formed
+
 pub plan_query-requires : goal.plan_query-requires
-plan_query-requires g c =
-    let catalogue_ok = rw c.as_slice-2.ensures.value at c.in_ok-tree.ensures in
-    let query_ok = rw c.as_slice-3.ensures.value at c.in_ok-selection.ensures in
-    is_small c.in_ok-catalogue_text.catalogue_text.items c.in_ok-tree.tree catalogue_ok c.in_ok-query_text.query_text.items c.in_ok-selection.selection query_ok
+plan_query-requires g c = let query_ok = rw c.as_slice-3.ensures.value at c.in_ok-selection.ensures in query_ok.built
 
 pub returns-clause-ran : goal.returns-clause-ran
 returns-clause-ran g c =
@@ -75,7 +75,7 @@ returns-clause-ran g c =
         record {
           rules = tiny_rules;
           query = c.in_ok-selection.selection;
-          says = says c.in_ok-catalogue_text.catalogue_text.items c.in_ok-tree.tree catalogue_ok c.in_ok-query_text.query_text.items c.in_ok-selection.selection query_ok c.in_ok-rule_text.rule_text.items rules_ok;
+          says = says c.in_ok-rule_text.rule_text.items c.in_ok-catalogue_text.catalogue_text.items c.in_ok-query_text.query_text.items c.in_ok-tree.tree c.in_ok-selection.selection rules_ok catalogue_ok query_ok;
           answer = c.in_ok-answer.ensures;
         },
       ),

@@ -1,11 +1,9 @@
-use Rattle.std.proofs.Common.{[], ◌∷◌}
-use Rattle.std.proofs.lemmas.Result.{err_from_is_err_and}
-use Rattle.stars_core.specs.declared.refusal.TextKind.TheVariants.{Catalogue, Query}
-use Rattle.stars_core.specs.Judging.{StopsOver}
-use Rattle.stars_core.proofs.FaultLaws.{front_refuses}
+use Rattle.stars_core.proofs.FaultLaws.{misread_query_refuses, unbuilt_query_refuses}
 use Rattle.stars_core.proofs.judging.judge_query.Goals as goal
 
-pub returns-in_err-tokens : goal.returns-in_err-tokens
-returns-in_err-tokens c =
-    let p = err_from_is_err_and c.from_residual.result c.from_residual.ensures.1 in
-    rw (p.1, p.2) (front_refuses Query c.args.bytes.now (StopsOver c.args.catalogue c.args.bytes.now) _ c.in_err-tokens.ensures (λ line stops k read. stops ((Catalogue, k) ∷ [])))
+pub returns-then-not-is_small : goal.returns-then-not-is_small
+returns-then-not-is_small c =
+    unbuilt_query_refuses c.args.catalogue.now c.args.bytes.now c.in-Ok.query c.in_ok-check_size.ensures (rw c.in-Ok.is at c.read_query.ensures) (λ small. let impossible = c.if-not-is_small.ensures.1 small in absurd cc) _ c.unbuilt.ensures
+
+pub returns-in-Err : goal.returns-in-Err
+returns-in-Err c = misread_query_refuses c.args.catalogue.now c.args.bytes.now c.in_ok-check_size.ensures c.in-Err.fault c.in-Err.ensures _ c.misread_query.ensures

@@ -1,10 +1,5 @@
-use Rattle.std.proofs.lemmas.Result.{err_from_is_err_and}
-use Rattle.stars_core.specs.declared.refusal.TextKind.TheVariants.{Rules}
-use Rattle.stars_core.specs.Judging.{StopsAlways}
-use Rattle.stars_core.proofs.FaultLaws.{front_refuses}
+use Rattle.stars_core.proofs.FaultLaws.{misread_rules_refuse}
 use Rattle.stars_core.proofs.judging.judge_rules.Goals as goal
 
-pub returns-in_err-tokens : goal.returns-in_err-tokens
-returns-in_err-tokens c =
-    let p = err_from_is_err_and c.from_residual.result c.from_residual.ensures.1 in
-    rw (p.1, p.2) (front_refuses Rules c.args.bytes.now (StopsAlways Rules c.args.bytes.now) _ c.in_err-tokens.ensures (λ line stops. stops))
+pub returns-in-Err : goal.returns-in-Err
+returns-in-Err c = misread_rules_refuse c.args.bytes.now c.in_ok-check_size.ensures c.in-Err.fault c.in-Err.ensures _ c.misread_rules.ensures

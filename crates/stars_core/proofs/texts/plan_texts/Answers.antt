@@ -1,6 +1,6 @@
 use Rattle.std.proofs.lemmas.Result.{err_from_is_err_and}
 use Rattle.spelling.specs.Tiny.{tiny_rules}
-use Rattle.stars_core.proofs.Says.{is_small_catalogue, is_small, says}
+use Rattle.stars_core.proofs.Says.{says}
 use Rattle.stars_core.proofs.ThreeTexts.{rules_not, catalogue_not, query_not, three_pass}
 use Rattle.stars_core.proofs.texts.plan_texts.Goals as goal
 
@@ -15,7 +15,7 @@ returns-in_err-tree c =
     rw (p.1, p.2) (catalogue_not c.args.rules.now c.args.catalogue.now c.args.query.now _ c.in_ok-judge_rules.ensures c.in_err-tree.ensures)
 
 pub judge_query-requires : goal.judge_query-requires
-judge_query-requires c = is_small_catalogue c.args.catalogue.now c.in_ok-tree.tree c.in_ok-tree.ensures
+judge_query-requires c = let pass = c.in_ok-tree.ensures in pass.read.formed
 
 pub returns-in_err-query : goal.returns-in_err-query
 returns-in_err-query c =
@@ -23,7 +23,7 @@ returns-in_err-query c =
     rw (p.1, p.2) (query_not c.args.rules.now c.args.catalogue.now c.args.query.now c.in_ok-tree.tree _ c.in_ok-judge_rules.ensures c.in_ok-tree.ensures c.in_err-query.ensures)
 
 pub plan_query-requires : goal.plan_query-requires
-plan_query-requires c = is_small c.args.catalogue.now c.in_ok-tree.tree c.in_ok-tree.ensures c.args.query.now c.in_ok-query.query c.in_ok-query.ensures
+plan_query-requires c = let pass = c.in_ok-query.ensures in pass.built
 
 pub returns : goal.returns
 returns c = (
@@ -31,7 +31,7 @@ returns c = (
   record {
     rules = tiny_rules;
     query = c.in_ok-query.query;
-    says = says c.args.catalogue.now c.in_ok-tree.tree c.in_ok-tree.ensures c.args.query.now c.in_ok-query.query c.in_ok-query.ensures c.args.rules.now c.in_ok-judge_rules.ensures;
+    says = says c.args.rules.now c.args.catalogue.now c.args.query.now c.in_ok-tree.tree c.in_ok-query.query c.in_ok-judge_rules.ensures c.in_ok-tree.ensures c.in_ok-query.ensures;
     answer = c.in_ok-answer.ensures;
   },
 )

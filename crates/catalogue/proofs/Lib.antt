@@ -1,0 +1,25 @@
+mod Items
+mod Spelled
+mod Understood
+mod Cut
+mod Printed
+mod FaultOrder
+mod PlaceLaws
+mod Adding
+mod Clear
+mod Shallow
+mod ReadBack
+mod NameLists
+mod FirstLaws
+mod DefinedLaws
+mod KnownLaws
+mod DifferLaws
+mod LexemeLimits
+mod LimitLaws
+mod Places
+mod MeaningLaws
+mod OneFault
+mod Formed
+pub mod Laws
+mod Resolved
+mod SoFar

@@ -1,0 +1,13 @@
+use Rattle.std.proofs.Common.{ℕ, List}
+use Rattle.star_model.specs.declared.catalogue.SiteDef.{SiteDef}
+use Rattle.catalogue.proofs.Resolved.{found_some, found_none}
+use Rattle.catalogue.proofs.resolve.site_named.Goals as goal
+
+abbrev name_of : SiteDef → List ℕ
+name_of d = d.name
+
+pub returns : goal.returns
+returns c = found_some name_of c.args.name.now c.args.sites.now c.in-Some.place c.in-Some.ensures
+
+pub unreachable-requires : goal.unreachable-requires
+unreachable-requires c = found_none name_of c.args.name.now c.args.sites.now c.place_of_site.result c.place_of_site.ensures c.in-None.is c.requires.known

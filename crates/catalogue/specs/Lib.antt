@@ -1,0 +1,11 @@
+pub mod Words
+pub mod Defined
+pub mod Beyond
+pub mod Faults
+pub mod NameSets
+pub mod Known
+pub mod LimitTests
+pub mod Resolving
+pub mod Reading
+pub mod Statements
+pub mod Judged

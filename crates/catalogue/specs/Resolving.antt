@@ -1,0 +1,40 @@
+-- When a statement can be added to a catalogue.
+use Rattle.std.specs.Prelude.{◌≡◌, ◌≤◌, false, IsSome, List, length, map, slice_get, Option, Some}
+use Rattle.star_model.specs.declared.catalogue.Catalogue.{Catalogue}
+use Rattle.star_model.specs.declared.catalogue.TableDef.{TableDef}
+use Rattle.star_model.specs.declared.catalogue.IndexDef.{IndexDef}
+use Rattle.spelling.specs.Lexemes.{Every}
+use Rattle.spelling.specs.Names.{place_of, all_of, ◌>>=◌}
+use Rattle.spelling.specs.Catalogues.{CatalogueStatement, Site, Table, Index, IndexPart, column_names, with_statement}
+use Rattle.spelling.specs.Names.{place_of, all_of, ◌>>=◌}
+use Rattle.star_model.specs.declared.catalogue.IndexDef.{IndexDef}
+use Rattle.catalogue.specs.LimitTests.{has_great_number}
+
+abbrev pub IsNarrow : TableDef → Type 0
+IsNarrow t = length t.columns ≤ 32
+
+-- its places are few
+pub record IsSmall (c : Catalogue) : Type 0 where
+  pub sites : length c.sites ≤ 8
+  pub tables : length c.tables ≤ 32
+  pub columns : Every IsNarrow c.tables
+
+abbrev pub HasFewColumns : CatalogueStatement → Type 0
+HasFewColumns (Site s) = Unit {0}
+HasFewColumns (Table t) = length t.columns ≤ 32
+HasFewColumns (Index i) = length i.columns ≤ 8
+
+-- it names what is defined, and its numbers and counts are within their limits
+pub record CanBeAdded (c : Catalogue) (x : CatalogueStatement) : Type 0 where
+  pub known : IsSome (with_statement c x)
+  pub small : IsSmall c
+  pub numbers : has_great_number x ≡ false
+  pub columns : HasFewColumns x
+
+-- the index with the positions of its table and of its columns; none where they aren't defined
+abbrev pub resolved_index : List TableDef → IndexPart → Option IndexDef
+resolved_index tables i = do
+  place ← place_of i.table (map (λ t. t.name) tables)
+  table ← slice_get tables place
+  columns ← all_of (map (λ name. place_of name (column_names table)) i.columns)
+  Some (record { name = i.name; table = place; columns = columns; pages = i.pages })

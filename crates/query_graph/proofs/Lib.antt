@@ -1,0 +1,28 @@
+mod Lists
+mod Places
+mod Inserting
+mod UnknownNames
+mod Repeats
+pub mod Steps
+pub mod SeriesLaws
+pub mod Loops
+pub mod PartsSpelled
+pub mod PartsRead
+pub mod QuerySpelled
+pub mod QueryRead
+mod LimitLaws
+mod TypeLaws
+mod Formed
+mod Resolving
+pub mod StatementLaws
+pub mod Laws
+pub mod CardinalityLaws
+pub mod GatheringLaws
+pub mod UsedLaws
+mod Found
+mod Meaning
+mod FormedQuery
+mod FaultLaws
+mod Judging
+mod GoodQuery
+mod Clear

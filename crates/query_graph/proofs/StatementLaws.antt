@@ -1,0 +1,131 @@
+-- What the first statements of a text come to, where the text is to be one query.
+use Rattle.std.proofs.Common.{◌≡◌, ℕ, true, false, List, [], ◌∷◌, map, Option, Some, None, refl, ap, sym, ◌∙◌, subst, inl, inr, arith, ◌⊎◌}
+use Rattle.std.specs.List.{All}
+use Rattle.std.specs.Option.{is_some, MatchOption}
+use Rattle.std.proofs.lemmas.List.Elements.{All-tail}
+use Rattle.sb_text.specs.Refusal.{AreTokens}
+use Rattle.sb_text.specs.Tokens.{lexed, Lexed}
+use Rattle.sb_text.specs.Statements.{Part, tokens_of, parts, part_of}
+use Rattle.sb_text.specs.Reading.{IsTokenOf}
+use Rattle.sb_text.specs.declared.statement.Statement.{Statement}
+use Rattle.sb_text.specs.declared.token.Token.{Token}
+use Rattle.sb_text.proofs.Laws.{tokens-parts}
+use Rattle.spelling.specs.Lexemes.{Lexeme, MaybeEnded, Every, HasItem, ended, lexemes_of, statements_in}
+use Rattle.spelling.specs.Cursors.{AreTokensOf}
+use Rattle.spelling.specs.Syntax.{IsUnderstood}
+use Rattle.spelling.specs.Firsts.{FirstAt}
+use Rattle.spelling.specs.FirstsCases.{one_first, none_first}
+use Prim.Native.Nat.{zero, suc}
+use Rattle.spelling.specs.Queries.{QueryStatement, query_lexemes, IsQueryStatement, SpellsQueryStatement}
+use Rattle.query_graph.specs.StatementReading.{only, query_at, statement_at}
+use Rattle.query_graph.specs.Syntax.{IsStrangeQueryAt}
+use Rattle.query_graph.specs.Faults.{Says}
+use Rattle.query_graph.proofs.QuerySpelled.{query_spelled}
+use Rattle.query_graph.proofs.QueryRead.{query_read}
+
+-- ---- one statement
+
+-- what is read as a query is understood
+read_spells : (s : MaybeEnded) (q : QueryStatement) → statement_at s ≡ Some q → (s ≡ ended (query_lexemes q)) × IsQueryStatement q
+unfolding statement_at
+read_spells (lexemes, true) q read = at (query_at lexemes) refl read
+  where
+    at : (found : Option (QueryStatement × List Lexeme)) → query_at lexemes ≡ found → only found ≡ Some q → ((lexemes, true) ≡ ended (query_lexemes q)) × IsQueryStatement q
+    at None is end = absurd cc
+    at (Some (found, [])) is end =
+        let same : found ≡ q = cc in
+        let spells = query_spelled lexemes q (is ∙ ap (λ x. Some (x, [])) same) in
+        (ap ended spells.are, spells.stands)
+    at (Some (found, lexeme ∷ later)) is end = absurd cc
+read_spells (lexemes, false) q read = absurd cc
+
+-- what is understood is read as a query
+understood_reads : (s : MaybeEnded) → IsUnderstood SpellsQueryStatement s → (q : QueryStatement) × (statement_at s ≡ Some q)
+unfolding statement_at
+understood_reads (lexemes, true) (q, spells) = (q, ap only (ap query_at spells.are ∙ query_read q spells.stands))
+understood_reads (lexemes, false) none = absurd none
+
+not_understood : (s : MaybeEnded) → statement_at s ≡ None → IsUnderstood SpellsQueryStatement s → ⊥
+not_understood s none is = let found = understood_reads s is in let e : None ≡ Some found.0 = sym none ∙ found.1 in absurd cc
+
+understood : (q : QueryStatement) → IsQueryStatement q → IsUnderstood SpellsQueryStatement (ended (query_lexemes q))
+understood q stands = (q, record { are = refl; stands = stands })
+
+-- ---- the statements of a text
+
+abbrev said_part : List ℕ → Part → MaybeEnded
+said_part text part = (lexemes_of text part.0, part.1)
+
+statements_are : (text : List ℕ) (tokens : List Token) (list : List Part) → AreTokens text tokens → parts tokens ≡ list → statements_in text ≡ map (said_part text) list
+unfolding statements_in
+statements_are text tokens list are is = ap (λ (l : Lexed). map (said_part text) (parts l.0)) are.lexed ∙ ap (map (said_part text)) is
+
+every_of : {A : Type 0} (P : A → Type 0) (xs : List A) → All P xs → Every P xs
+every_of P [] all = tt
+every_of P (x ∷ xs) all = (all 0 x (omega arith), every_of P xs (All-tail P x xs all))
+
+pub first_tokens : (text : List ℕ) (tokens : List Token) (part : Part) (later : List Part) → AreTokens text tokens → parts tokens ≡ part ∷ later → AreTokensOf text part.0
+first_tokens text tokens part later are is =
+    let list : parts (lexed text).0 ≡ part ∷ later = ap (λ (l : Lexed). parts l.0) are.lexed ∙ is in
+    let all : All (λ (p : Part). All (IsTokenOf text) (tokens_of p)) (part ∷ later) = subst (λ (l : List Part). All (λ (p : Part). All (IsTokenOf text) (tokens_of p)) l) list (tokens-parts text) in
+    every_of (IsTokenOf text) part.0 (all 0 part (omega arith))
+
+-- ---- the verdicts
+
+pub no_statement : (text : List ℕ) (tokens : List Token) → AreTokens text tokens → parts tokens ≡ [] → IsStrangeQueryAt text 1
+no_statement text tokens are is = inl (statements_are text tokens [] are is, refl)
+
+pub first_is_strange : (text : List ℕ) (tokens : List Token) (part : Part) (later : List Part) → AreTokens text tokens → parts tokens ≡ part ∷ later
+    → statement_at (lexemes_of text part.0, part.1) ≡ None → IsStrangeQueryAt text 1
+first_is_strange text tokens part later are is none =
+    inr (rw (statements_are text tokens (part ∷ later) are is) (inr (not_understood (said_part text part) none)))
+
+-- whether a statement stands next
+abbrev Next : List Part → Option Statement → List Part → Type 0
+Next left next later = MatchOption next ((left ≡ []) × (later ≡ [])) (λ s. left ≡ part_of s ∷ later)
+
+pub second_is_strange : (text : List ℕ) (tokens : List Token) (part : Part) (left : List Part) (next : Option Statement) (later : List Part) (q : QueryStatement)
+    → AreTokens text tokens → parts tokens ≡ part ∷ left → Next left next later → true ≡ is_some next
+    → statement_at (lexemes_of text part.0, part.1) ≡ Some q → IsStrangeQueryAt text 2
+second_is_strange text tokens part left None later q are is second some read = absurd cc
+second_is_strange text tokens part left (Some s) later q are is second some read =
+    let spells = read_spells (said_part text part) q read in
+    inr (rw (statements_are text tokens (part ∷ part_of s ∷ later) are (is ∙ ap (λ l. part ∷ l) second), spells.0) (
+      (λ strange. elim strange [ inl before ↦ before | inr not ↦ not (understood q spells.1) ]),
+      inl tt,
+    ))
+
+pub only_statement : (text : List ℕ) (tokens : List Token) (part : Part) (left : List Part) (next : Option Statement) (later : List Part) (q : QueryStatement)
+    → AreTokens text tokens → parts tokens ≡ part ∷ left → Next left next later → false ≡ is_some next
+    → statement_at (lexemes_of text part.0, part.1) ≡ Some q → Says text q
+only_statement text tokens part left (Some s) later q are is second none read = absurd cc
+only_statement text tokens part left None later q are is second none read =
+    let spells = read_spells (said_part text part) q read in
+    record {
+      are = record {
+        all_tokens = ap (λ (l : Lexed). l.1) are.lexed;
+        are = statements_are text tokens (part ∷ []) are (is ∙ ap (λ l. part ∷ l) second.0) ∙ ap (λ s. s ∷ []) spells.0;
+      };
+      stands = spells.1;
+    }
+
+-- ---- at most one verdict
+
+abbrev IsStrange : List MaybeEnded → MaybeEnded → Type 0
+IsStrange before statement = HasItem before ⊎ (IsUnderstood SpellsQueryStatement statement → ⊥)
+
+nowhere : (k : ℕ) → FirstAt IsStrange [] k → ⊥
+nowhere zero first = first
+nowhere (suc n) first = first
+
+pub one_strange : (text : List ℕ) (k m : ℕ) → IsStrangeQueryAt text k → IsStrangeQueryAt text m → k ≡ m
+one_strange text k m (inl a) (inl b) = a.1 ∙ sym b.1
+one_strange text k m (inl a) (inr b) = absurd (nowhere m (rw a.0 at b))
+one_strange text k m (inr a) (inl b) = absurd (nowhere k (rw b.0 at a))
+one_strange text k m (inr a) (inr b) = one_first IsStrange [] (statements_in text) k m a b
+
+-- a text that says a query has no statement that isn't understood
+pub says_none_strange : (text : List ℕ) (q : QueryStatement) (k : ℕ) → Says text q → IsStrangeQueryAt text k → ⊥
+says_none_strange text q k says (inl a) = let e : ended (query_lexemes q) ∷ [] ≡ [] = sym says.are.are ∙ a.0 in absurd cc
+says_none_strange text q k says (inr a) =
+    none_first IsStrange [] (ended (query_lexemes q) ∷ []) k ((λ strange. elim strange [ inl before ↦ before | inr not ↦ not (understood q says.stands) ]), tt) (rw says.are.are at a)

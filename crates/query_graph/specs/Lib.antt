@@ -1,0 +1,11 @@
+pub mod Words
+pub mod StatementReading
+pub mod Syntax
+pub mod Faults
+pub mod NameTests
+pub mod Quantifiers
+pub mod LimitTests
+pub mod TypeTests
+pub mod Fitting
+pub mod UsedColumns
+pub mod TextFaults

@@ -1,0 +1,169 @@
+// The lines that tell the faults of a text.
+ghost use Rattle.std.specs.Prelude.{◌≡◌, ◌++◌, IfOk, Some, codes, string_bytes};
+ghost use Rattle.stars_core.specs.Lines.{prefix, too_long_line, lexical_line, statement_line, not_built_line, unknown_line, twice_line, limit_word, limit_line, clash_line, rules_line, catalogue_line, query_line};
+
+use crate::TextKind;
+use catalogue::CatFault;
+use query_graph::QueryFault;
+use sb_text::TextFault;
+use star_model::faults::LimitKind;
+use std::alloc::{AllocError, Global};
+
+fn prefix(kind: TextKind) -> &'static str
+    ensures { result.now ≡ prefix kind }
+{
+    match kind {
+        TextKind::Rules => "rules: ",
+        TextKind::Catalogue => "catalogue: ",
+        TextKind::Query => "query: ",
+    }
+}
+
+pub fn too_long_line(alloc: Global, kind: TextKind) -> Result<String, AllocError>
+    ensures { IfOk result (λ line. string_bytes line ≡ too_long_line kind) }
+{
+    let prefix = prefix(kind);
+    format!(in alloc; "{prefix}longer than 1048576 bytes\n")
+}
+
+fn lexical_line(alloc: Global, kind: TextKind, offset: u32) -> Result<String, AllocError>
+    ensures { IfOk result (λ line. string_bytes line ≡ lexical_line kind offset) }
+{
+    let prefix = prefix(kind);
+    format!(in alloc; "{prefix}no token at byte {offset}\n")
+}
+
+// What is said of a statement, by its number from 1.
+fn statement_line(
+    alloc: Global,
+    kind: TextKind,
+    statement: u32,
+    said: &str,
+) -> Result<String, AllocError>
+    ensures { IfOk result (λ line. string_bytes line ≡ statement_line kind statement said.now) }
+{
+    let prefix = prefix(kind);
+    let mut line = format!(in alloc; "{prefix}statement {statement} ")?;
+    line.push_str(said)?;
+    line.push_str("\n")?;
+    Ok(line)
+}
+
+pub fn not_built_line(alloc: Global, kind: TextKind, statement: u32) -> Result<String, AllocError>
+    ensures { IfOk result (λ line. string_bytes line ≡ not_built_line kind statement) }
+{
+    statement_line(alloc, kind, statement, "is not built yet")
+}
+
+fn unknown_line(alloc: Global, kind: TextKind, statement: u32) -> Result<String, AllocError>
+    ensures { IfOk result (λ line. string_bytes line ≡ unknown_line kind statement) }
+{
+    let prefix = prefix(kind);
+    format!(in alloc; "{prefix}unknown name in statement {statement}\n")
+}
+
+fn twice_line(alloc: Global, kind: TextKind, statement: u32) -> Result<String, AllocError>
+    ensures { IfOk result (λ line. string_bytes line ≡ twice_line kind statement) }
+{
+    let prefix = prefix(kind);
+    format!(in alloc; "{prefix}name defined twice in statement {statement}\n")
+}
+
+fn limit_word(what: LimitKind) -> &'static str
+    ensures { result.now ≡ limit_word what }
+{
+    match what {
+        LimitKind::Number => "Number",
+        LimitKind::Name => "Name",
+        LimitKind::File => "File",
+        LimitKind::Params => "Params",
+        LimitKind::Alternatives => "Alternatives",
+        LimitKind::ForAlls => "ForAlls",
+        LimitKind::Stars => "Stars",
+        LimitKind::Depth => "Depth",
+        LimitKind::Formula => "Formula",
+        LimitKind::Sites => "Sites",
+        LimitKind::Tables => "Tables",
+        LimitKind::Columns => "Columns",
+        LimitKind::Indexes => "Indexes",
+        LimitKind::IndexColumns => "IndexColumns",
+        LimitKind::Quantifiers => "Quantifiers",
+        LimitKind::Predicates => "Predicates",
+        LimitKind::Select => "Select",
+        LimitKind::OrderBy => "OrderBy",
+    }
+}
+
+fn limit_line(
+    alloc: Global,
+    kind: TextKind,
+    statement: u32,
+    what: LimitKind,
+) -> Result<String, AllocError>
+    ensures { IfOk result (λ line. string_bytes line ≡ limit_line kind statement what) }
+{
+    let prefix = prefix(kind);
+    let word = limit_word(what);
+    format!(in alloc; "{prefix}limit {word} in statement {statement}\n")
+}
+
+fn clash_line(alloc: Global, predicate: u32) -> Result<String, AllocError>
+    ensures { IfOk result (λ line. string_bytes line ≡ clash_line predicate) }
+{
+    let prefix = prefix(TextKind::Query);
+    let mut line = format!(in alloc; "{prefix}predicate {predicate}")?;
+    line.push_str(" compares two types")?;
+    line.push_str("\n")?;
+    Ok(line)
+}
+
+/// The line of a fault of a rule file. Want of memory is told as itself.
+pub fn rules_line(alloc: Global, fault: TextFault) -> Result<String, AllocError>
+    ensures { IfOk result (λ line. rules_line fault ≡ Some (string_bytes line)) }
+{
+    match fault {
+        TextFault::Lexical(offset) => lexical_line(alloc, TextKind::Rules, offset),
+        TextFault::TooDeep(statement) => {
+            statement_line(alloc, TextKind::Rules, statement, "is too deep")
+        }
+        TextFault::Memory => Err(AllocError),
+    }
+}
+
+/// The line of a fault of a catalogue. Want of memory is told as itself.
+pub fn catalogue_line(alloc: Global, fault: CatFault) -> Result<String, AllocError>
+    ensures { IfOk result (λ line. catalogue_line fault ≡ Some (string_bytes line)) }
+{
+    let kind = TextKind::Catalogue;
+    match fault {
+        CatFault::Lexical(offset) => lexical_line(alloc, kind, offset),
+        CatFault::TooDeep(statement) => statement_line(alloc, kind, statement, "is too deep"),
+        CatFault::Syntax(statement) => statement_line(alloc, kind, statement, "is not understood"),
+        CatFault::Unknown(statement) => unknown_line(alloc, kind, statement),
+        CatFault::Twice(statement) => twice_line(alloc, kind, statement),
+        CatFault::Limit(statement, what) => limit_line(alloc, kind, statement, what),
+        CatFault::Memory => Err(AllocError),
+    }
+}
+
+/// The line of a fault of a query. Want of memory is told as itself.
+pub fn query_line(alloc: Global, fault: QueryFault) -> Result<String, AllocError>
+    ensures { IfOk result (λ line. query_line fault ≡ Some (string_bytes line)) }
+{
+    let kind = TextKind::Query;
+    match fault {
+        QueryFault::Lexical(offset) => lexical_line(alloc, kind, offset),
+        QueryFault::TooDeep(statement) => statement_line(alloc, kind, statement, "is too deep"),
+        QueryFault::Syntax(statement) => statement_line(
+            alloc,
+            kind,
+            statement,
+            "is not understood",
+        ),
+        QueryFault::Unknown(statement) => unknown_line(alloc, kind, statement),
+        QueryFault::Twice(statement) => twice_line(alloc, kind, statement),
+        QueryFault::Limit(statement, what) => limit_line(alloc, kind, statement, what),
+        QueryFault::TypeClash(predicate) => clash_line(alloc, predicate),
+        QueryFault::Memory => Err(AllocError),
+    }
+}
