@@ -1,7 +1,8 @@
 -- Laws of what shelves tell and count. Each is the clause of a public function of this crate.
-use Rattle.std.proofs.Common.{◌≡◌, ◌<◌, ◌+◌, ◌∙◌, ℕ, List, length, replicate, Option, None, Some, IsSomeAnd, refl, arith, suc}
+use Rattle.std.proofs.Common.{◌≡◌, ◌<◌, ◌+◌, ◌∙◌, ℕ, List, length, replicate, Option, None, Some, IsSomeAnd, refl, ap, sym, arith, suc}
 use Rattle.std.proofs.lemmas.List.{length-replicate}
-use Rattle.sb_outside.specs.Shelf.{Files, Call, ShelfState, TellsBytes, TellsMore, GoesBy, FailsAt, NoFault}
+use Rattle.sb_outside.specs.Records.{Records, records_of}
+use Rattle.sb_outside.specs.Shelf.{Files, Call, ShelfState, TellsBytes, TellsMore, TellsRecords, GoesBy, FailsAt, NoFault}
 
 -- where there was no call, nothing went on
 pub no_call : (state : ShelfState) → GoesBy 0 state state × NoFault state state
@@ -30,6 +31,12 @@ fails_on before mid now call first then = record { rose = rw (← first.faults) 
 -- one name has one content
 pub one_content : (files : Files) (name a b : List ℕ) → TellsBytes (Some files) name a → TellsBytes (Some files) name b → a ≡ b
 one_content files name a b held also = cc
+
+-- one name has one table
+pub one_table : (files : Files) (name : List ℕ) (most limit : ℕ) (table other : Records)
+    → TellsRecords (Some files) name most table → TellsRecords (Some files) name limit other → table ≡ other
+one_table files name most limit table other one also =
+    one.read ∙ ap records_of (one_content files name one.bytes also.bytes one.held also.held) ∙ sym also.read
 
 some_and : {A : Type 0} (o : Option A) (P : A → Type 0) → IsSomeAnd o P → (x : A) × (o ≡ Some x) × P x
 some_and None P p = absurd p

@@ -1,4 +1,9 @@
 pub mod Counts
+pub mod Csv
+pub mod Faults
+pub mod Pieces
+pub mod Records
+pub mod RawTable
 pub mod Shelf
 pub mod Sink
 pub mod Named

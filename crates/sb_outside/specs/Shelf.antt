@@ -1,6 +1,7 @@
 -- What a shelf is to its callers: what it holds, where it tells, and what it counts.
 use Rattle.std.specs.Prelude.{◌≡◌, ◌≤◌, ◌<◌, ℕ, List, length, Option, Some, IfSome, IsSomeAnd, Bool}
 use Rattle.sb_outside.specs.Counts.{Rose, RoseAtMost}
+use Rattle.sb_outside.specs.Records.{Records, records_of}
 
 -- the bytes of each name that is held
 abbrev pub Files : Type 0
@@ -29,6 +30,13 @@ TellsBytes told name bytes = IfSome told (λ files. files name ≡ Some bytes)
 -- where it is told, the name is held with more bytes than that
 abbrev pub TellsMore : Option Files → List ℕ → ℕ → Type 0
 TellsMore told name most = IfSome told (λ files. IsSomeAnd (files name) (λ bytes. most < length bytes))
+
+-- told or not, these are the records of some bytes, at most so many; where it is told, the name is held with them
+pub record TellsRecords (told : Option Files) (name : List ℕ) (most : ℕ) (table : Records) : Type 0 where
+  pub bytes : List ℕ
+  pub held : TellsBytes told name bytes
+  pub within : length bytes ≤ most
+  pub read : table ≡ records_of bytes
 
 -- at most so many calls: what is held stays, and no count falls
 pub record GoesBy (most : ℕ) (before now : ShelfState) : Type 0 where

@@ -1,9 +1,9 @@
 // A shelf in memory, which tells its files.
-ghost use Rattle.std.specs.Prelude.{◌≡◌, ◌≤◌, ◌+◌, Some, false, length, IfOk, IsErrOf, IsTrue, ◌↔◌};
+ghost use Rattle.std.specs.Prelude.{◌≡◌, ◌≤◌, ◌+◌, Some, true, false, length, IfOk, IsErrOf, IsTrue, ◌↔◌};
 ghost use Rattle.std.specs.Option.{option_copied};
 ghost use Rattle.sb_outside.specs.Named.{first_named, FailsAtNumber};
 
-use crate::{FailedCall, Shelf, ShelfFault};
+use crate::{FailedCall, RawTable, RecordsFault, Shelf, ShelfFault, read_table};
 use std::alloc::Global;
 
 /// Files in memory, for tests.
@@ -17,7 +17,7 @@ pub struct MemoryShelf {
     pub calls: u32,
     /// How many calls failed.
     pub faults: u64,
-    /// How many bytes were taken: those of each file that was given, and `max + 1` of one that was too long.
+    /// How many bytes were taken: those of each file that was given, also as records, and `max + 1` of one that was too long.
     pub taken: u64,
     /// The call that failed last.
     pub last: Option<FailedCall>,
@@ -44,7 +44,7 @@ fn is_failing(failing: &[u32], calls: u32) -> bool
 }
 
 impl MemoryShelf {
-    ghost use Rattle.sb_outside.specs.MemoryShelf.{Asked};
+    ghost use Rattle.sb_outside.specs.MemoryShelf.{Asked, after_taking, after_failing};
 
     // The bytes of this name, where the next call doesn't fail.
     fn ask(&self, name: &str) -> Option<&[u8]>
@@ -56,12 +56,29 @@ impl MemoryShelf {
             find(&self.files, name)
         }
     }
+
+    // Counts a call that took so many bytes.
+    fn count_taken(&mut self, bytes: u64)
+        ensures { self.new ≡ after_taking self.old bytes }
+    {
+        self.calls = self.calls.saturating_add(1);
+        self.taken = self.taken.saturating_add(bytes);
+    }
+
+    // Counts a call that failed, and keeps it.
+    fn count_failed(&mut self, call: FailedCall)
+        ensures { self.new ≡ after_failing self.old call }
+    {
+        self.calls = self.calls.saturating_add(1);
+        self.faults = self.faults.saturating_add(1);
+        self.last = Some(call);
+    }
 }
 
 impl Shelf for MemoryShelf {
     ghost use Rattle.sb_outside.specs.Counts.{RoseBy};
-    ghost use Rattle.sb_outside.specs.Shelf.{TellsBytes, TellsMore, Goes, FailsAt, NoFault};
-    ghost use Rattle.sb_outside.specs.MemoryShelf.{state_of, Answers};
+    ghost use Rattle.sb_outside.specs.Shelf.{TellsBytes, TellsMore, TellsRecords, Goes, FailsAt, NoFault};
+    ghost use Rattle.sb_outside.specs.MemoryShelf.{state_of, AnswersBytes, AnswersRecords};
 
     ghost state = { state_of };
 
@@ -73,26 +90,58 @@ impl Shelf for MemoryShelf {
         ensures no_fault { (IsErrOf result ShelfFault.Failed → ⊥) → NoFault (state_of self.old) (state_of self.new) }
         ensures too_long { IsErrOf result ShelfFault.TooLong → RoseBy (max + 1) (state_of self.old).taken (state_of self.new).taken }
         ensures told_too_long { IsErrOf result ShelfFault.TooLong → TellsMore (state_of self.old).held name.now max }
-        ensures answers { Answers self.old name.now max result self.new }
+        ensures answers { AnswersBytes self.old name.now max result self.new }
     {
         let call = FailedCall::new(alloc, false, name)?;
         match self.ask(name) {
             None => {
-                self.calls = self.calls.saturating_add(1);
-                self.faults = self.faults.saturating_add(1);
-                self.last = Some(call);
+                self.count_failed(call);
                 Err(ShelfFault::Failed)
             }
             Some(bytes) if bytes.len() > max => {
-                self.calls = self.calls.saturating_add(1);
-                self.taken = self.taken.saturating_add(max as u64 + 1);
+                self.count_taken(max as u64 + 1);
                 Err(ShelfFault::TooLong)
             }
             Some(bytes) => {
                 let copy = bytes.to_vec(alloc)?;
-                self.calls = self.calls.saturating_add(1);
-                self.taken = self.taken.saturating_add(copy.len() as u64);
+                self.count_taken(copy.len() as u64);
                 Ok(copy)
+            }
+        }
+    }
+
+    fn records(&mut self, alloc: Global, name: &str, max: usize) -> Result<RawTable, ShelfFault>
+        ensures goes { Goes (state_of self.old) (state_of self.new) }
+        ensures told { IfOk result (λ table. TellsRecords (state_of self.old).held name.now max table) }
+        ensures failed { IsErrOf result ShelfFault.Failed → FailsAt (state_of self.old) (state_of self.new) (true, name.now) }
+        ensures no_fault { (IsErrOf result ShelfFault.Failed → ⊥) → NoFault (state_of self.old) (state_of self.new) }
+        ensures too_long { IsErrOf result ShelfFault.TooLong → RoseBy (max + 1) (state_of self.old).taken (state_of self.new).taken }
+        ensures told_too_long { IsErrOf result ShelfFault.TooLong → TellsMore (state_of self.old).held name.now max }
+        ensures answers { AnswersRecords self.old name.now max result self.new }
+    {
+        let call = FailedCall::new(alloc, true, name)?;
+        match self.ask(name) {
+            None => {
+                self.count_failed(call);
+                Err(ShelfFault::Failed)
+            }
+            Some(text) if text.len() > max => {
+                self.count_taken(max as u64 + 1);
+                Err(ShelfFault::TooLong)
+            }
+            Some(text) => {
+                let count = text.len() as u64;
+                match read_table(alloc, text) {
+                    Ok(table) => {
+                        self.count_taken(count);
+                        Ok(table)
+                    }
+                    Err(RecordsFault::Refused) => {
+                        self.count_failed(call);
+                        Err(ShelfFault::Failed)
+                    }
+                    Err(RecordsFault::Memory) => Err(ShelfFault::Memory),
+                }
             }
         }
     }

@@ -1,6 +1,7 @@
 // Laws of what shelves tell and count, for proofs of crates above. The functions do nothing.
 ghost use Rattle.std.specs.Prelude.{◌≡◌, ◌+◌, ◌<◌, ℕ, List, length, Option, Some};
-ghost use Rattle.sb_outside.specs.Shelf.{Files, Call, ShelfState, TellsBytes, TellsMore, GoesBy, FailsAt, NoFault};
+ghost use Rattle.sb_outside.specs.Records.{Records};
+ghost use Rattle.sb_outside.specs.Shelf.{Files, Call, ShelfState, TellsBytes, TellsMore, TellsRecords, GoesBy, FailsAt, NoFault};
 
 /// Where there was no call, nothing went on.
 pub fn no_call()
@@ -25,6 +26,12 @@ pub fn fails_on()
 /// A shelf that tells holds one content under a name.
 pub fn one_content()
     ensures { (files : Files) (name a b : List ℕ) → TellsBytes (Some files) name a → TellsBytes (Some files) name b → a ≡ b }
+{}
+
+/// A shelf that tells holds one table under a name, whatever the limits.
+pub fn one_table()
+    ensures { (files : Files) (name : List ℕ) (most limit : ℕ) (table other : Records)
+        → TellsRecords (Some files) name most table → TellsRecords (Some files) name limit other → table ≡ other }
 {}
 
 /// Told or not, where a content is too long there are bytes that it may be.

@@ -1,7 +1,9 @@
 // The files of the system as a shelf, which tells no content.
-ghost use Rattle.std.specs.Prelude.{◌≡◌, None};
+ghost use Rattle.std.specs.Prelude.{◌≡◌, ◌≤◌, ◌+◌, length, Some, None, IfOk, IsErrOf};
+ghost use Rattle.sb_outside.specs.Counts.{Rose, RoseBy, RoseAtMost};
+ghost use Rattle.sb_outside.specs.Shelf.{TellsRecords};
 
-use sb_outside::{FailedCall, Shelf, ShelfFault};
+use sb_outside::{FailedCall, RawTable, Shelf, ShelfFault, read_table};
 use std::alloc::Global;
 use std::fs;
 use std::io::{self, ErrorKind, Read};
@@ -31,6 +33,54 @@ impl<'a, R: Files> FileShelf<'a, R> {
             last: None,
         }
     }
+
+    // The bytes of a file, where they are at most `max`, counted as a call that takes them. A fault isn't counted.
+    fn take(&mut self, alloc: Global, name: &str, max: usize) -> Result<Vec<u8>, ShelfFault>
+        ensures calls { RoseAtMost 1 self.old.calls self.new.calls }
+        ensures faults { (self.new.faults ≡ self.old.faults) × (self.new.last ≡ self.old.last) }
+        ensures taken { self.old.taken ≤ self.new.taken }
+        ensures within { IfOk result (λ bytes. length bytes.items ≤ max) }
+        ensures too_long { IsErrOf result ShelfFault.TooLong → RoseBy (max + 1) self.old.taken self.new.taken }
+    {
+        self.calls = self.calls.saturating_add(1);
+        let bytes = match read_front(self.files, alloc, name, max) {
+            Ok(bytes) => bytes,
+            Err(error) if error.kind() == ErrorKind::OutOfMemory => return Err(ShelfFault::Memory),
+            Err(_) => return Err(ShelfFault::Failed),
+        };
+        self.taken = self.taken.saturating_add(bytes.len() as u64);
+        if bytes.len() > max {
+            return Err(ShelfFault::TooLong);
+        }
+        Ok(bytes)
+    }
+
+    // The records of a file, where its bytes are at most `max`, counted in the same way.
+    fn take_records(
+        &mut self,
+        alloc: Global,
+        name: &str,
+        max: usize,
+    ) -> Result<RawTable, ShelfFault>
+        ensures calls { RoseAtMost 1 self.old.calls self.new.calls }
+        ensures faults { (self.new.faults ≡ self.old.faults) × (self.new.last ≡ self.old.last) }
+        ensures taken { self.old.taken ≤ self.new.taken }
+        ensures within { IfOk result (λ table. TellsRecords None name.now max table) }
+        ensures too_long { IsErrOf result ShelfFault.TooLong → RoseBy (max + 1) self.old.taken self.new.taken }
+    {
+        let bytes = self.take(alloc, name, max)?;
+        Ok(read_table(alloc, bytes.as_slice())?)
+    }
+
+    // Counts a fault, and keeps the call.
+    fn count_failed(&mut self, call: FailedCall)
+        ensures counts { (self.new.calls ≡ self.old.calls) × (self.new.taken ≡ self.old.taken) }
+        ensures faults { (self.old.faults ≤ self.new.faults) × Rose self.old.faults self.new.faults }
+        ensures kept { self.new.last ≡ Some call }
+    {
+        self.faults = self.faults.saturating_add(1);
+        self.last = Some(call);
+    }
 }
 
 // All bytes of a file, or its first `max + 1` where it has so many.
@@ -46,22 +96,24 @@ impl<R: Files> Shelf for FileShelf<'_, R> {
     ghost state = { λ s. record { held = None; faults = s.faults; calls = s.calls; taken = s.taken; last_failed = s.last } };
 
     fn bytes(&mut self, alloc: Global, name: &str, max: usize) -> Result<Vec<u8>, ShelfFault> {
-        self.calls = self.calls.saturating_add(1);
         let call = FailedCall::new(alloc, false, name)?;
-        match read_front(self.files, alloc, name, max) {
-            Ok(bytes) => {
-                self.taken = self.taken.saturating_add(bytes.len() as u64);
-                if bytes.len() > max {
-                    return Err(ShelfFault::TooLong);
-                }
-                Ok(bytes)
-            }
-            Err(error) if error.kind() == ErrorKind::OutOfMemory => Err(ShelfFault::Memory),
-            Err(_) => {
-                self.faults = self.faults.saturating_add(1);
-                self.last = Some(call);
+        match self.take(alloc, name, max) {
+            Err(ShelfFault::Failed) => {
+                self.count_failed(call);
                 Err(ShelfFault::Failed)
             }
+            answer => answer,
+        }
+    }
+
+    fn records(&mut self, alloc: Global, name: &str, max: usize) -> Result<RawTable, ShelfFault> {
+        let call = FailedCall::new(alloc, true, name)?;
+        match self.take_records(alloc, name, max) {
+            Err(ShelfFault::Failed) => {
+                self.count_failed(call);
+                Err(ShelfFault::Failed)
+            }
+            answer => answer,
         }
     }
 }
@@ -95,6 +147,38 @@ mod tests {
         let last = shelf.last.ok_or("no failed call")?;
         assert!(rt; !last.is_records());
         assert_eq!(rt; last.name(), ".");
+        Ok(())
+    }
+
+    #[test]
+    fn reads_tables(rt: HostRuntime) -> Result<(), Fail> {
+        let alloc = rt.alloc();
+        fs::write(&rt, "three.csv", b"\xEF\xBB\xBFa,b\n\"x,y\"\r\n1,,3\n")?;
+        let mut shelf = FileShelf::new(&rt);
+        let table = shelf.records(alloc, "three.csv", 19);
+        let too_long = shelf.records(alloc, "three.csv", 18).is_err();
+        fs::remove_file(&rt, "three.csv")?;
+        let missing = shelf.records(alloc, "three.csv", 19).is_err();
+        assert_eq!(rt; (too_long, missing), (true, true));
+        assert_eq!(rt; (shelf.calls, shelf.faults, shelf.taken), (3, 1, 38));
+        let last = shelf.last.ok_or("no failed call")?;
+        assert!(rt; last.is_records());
+        assert_eq!(rt; last.name(), "three.csv");
+
+        let Ok(table) = table else {
+            assert!(rt; false, "no table");
+            return Ok(());
+        };
+        let mut seen = Vec::new(alloc);
+        for record_no in 0..table.len() {
+            for field_no in 0..table.fields(record_no) {
+                seen.push(b'[')?;
+                seen.extend_from_slice(table.field(record_no, field_no))?;
+                seen.push(b']')?;
+            }
+            seen.push(b';')?;
+        }
+        assert_eq!(rt; seen.as_slice(), b"[a][b];[x,y];[1][][3];".as_slice());
         Ok(())
     }
 }
