@@ -1,0 +1,6 @@
+mod Integers
+mod Places
+mod Collected
+mod CellLaws
+mod RowFaults
+mod Loaded

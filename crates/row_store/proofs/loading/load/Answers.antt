@@ -1,0 +1,12 @@
+use Rattle.std.proofs.Common.{◌≡◌, sym, ap, arith, get_or}
+use Rattle.star_model.specs.declared.catalogue.TableDef.{TableDef}
+use Rattle.row_store.proofs.Loaded.{few_columns, loads}
+use Rattle.row_store.proofs.loading.load.Goals as goal
+
+pub open-requires : goal.open-requires
+open-requires c =
+    few_columns c.args.catalogue.now c.args.table c.index-as_slice-table.result c.requires.catalogue c.requires.table (rw c.as_slice.ensures at c.index-as_slice-table.is)
+
+pub returns : goal.returns
+returns c =
+    loads c.args.catalogue.now c.args.table c.index-as_slice-table.result c.args.raw c.open.result c.requires.table (rw c.as_slice.ensures at c.index-as_slice-table.is) c.open.ensures

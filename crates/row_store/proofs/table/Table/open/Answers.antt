@@ -1,0 +1,17 @@
+use Rattle.std.proofs.Common.{◌≡◌, ◌∙◌, sym, ap, arith, length, drop, None}
+use Rattle.sb_outside.specs.Records.{record_at}
+use Rattle.row_store.specs.Reading.{rows_fault}
+use Rattle.row_store.proofs.RowFaults.{few_records, equal_lengths}
+use Rattle.row_store.proofs.table.Table.open.Goals as goal
+
+pub invariant_of-result : goal.invariant_of-result
+invariant_of-result c =
+    let clear : rows_fault c.in-Some.columns.items (length (record_at c.args.raw 0)) 0 (drop 1 c.args.raw) ≡ None =
+    rw c.as_slice.ensures.value at (sym c.rows_fault.ensures ∙ c.in-None.is) in
+    record {
+      header = omega arith;
+      few_rows = few_records c.in-Some.columns.items c.args.raw (omega arith) clear;
+      few_columns = omega (arith, rw c.in-Some.is at c.in_ok-columns.ensures.count);
+      in_range = rw c.in-Some.is at c.in_ok-columns.ensures.in_range;
+      lengths = equal_lengths c.in-Some.columns.items c.args.raw (omega arith) clear;
+    }

@@ -1,0 +1,6 @@
+pub mod Faults
+pub mod Columns
+pub mod Reading
+pub mod Loading
+pub mod Tables
+pub mod Cells

@@ -1,0 +1,88 @@
+// Tables: the rows of their records.
+ghost use Rattle.std.specs.Prelude.{◌≡◌, ◌<◌, ◌≤◌, [], length, slice_index_or, pos};
+ghost use Rattle.star_model.specs.declared.catalogue.Value.TheVariants as constant;
+ghost use Rattle.row_store.specs.Loading.{Opens};
+ghost use Rattle.row_store.specs.Cells.{value_of_cell};
+
+use crate::fault::TableFault;
+use crate::header::{Column, columns_of};
+use crate::integer::integer_of;
+use crate::rows::rows_fault;
+use sb_outside::RawTable;
+use star_model::catalogue::{ColType, TableDef};
+use std::alloc::Global;
+use std::marker::Model;
+
+/// The rows of a table. Each has a value for each column, by the catalogue's order.
+///
+/// A table is its records with the places of its columns, so it takes no more memory than they do.
+#[derive(Drop)]
+pub struct Table {
+    raw: RawTable,
+    columns: Vec<Column>,
+}
+
+impl Model for Table {
+    ghost use Rattle.std.specs.Prelude.{List};
+    ghost use Rattle.star_model.specs.declared.catalogue.Value.{Value as CellValue};
+
+    ghost Value = { List (List CellValue) };
+
+    ghost use Rattle.row_store.specs.Tables.{rows_in, IsLoaded};
+
+    ghost view = { rows_in };
+
+    ghost invariant = { IsLoaded };
+}
+
+/// A value of a row.
+#[derive(Clone, Copy, Debug)]
+pub enum Cell<'a> {
+    Int(i64),
+    Text(&'a [u8]),
+}
+
+impl Table {
+    /// The rows that these records hold.
+    pub(crate) fn open(
+        alloc: Global,
+        definition: &TableDef,
+        raw: RawTable,
+    ) -> Result<Table, TableFault>
+        requires { length definition.now.columns ≤ 32 }
+        ensures { Opens definition.now raw result }
+    {
+        if raw.len() == 0 {
+            return Err(TableFault::BadHeader);
+        }
+        let Some(columns) = columns_of(alloc, definition, &raw)? else {
+            return Err(TableFault::BadHeader);
+        };
+        match rows_fault(&raw, columns.as_slice()) {
+            Some(fault) => Err(fault),
+            None => Ok(Table { raw, columns }),
+        }
+    }
+
+    /// How many rows there are: at most 200,000.
+    pub fn rows(&self) -> u32
+        ensures { result ≡ length self.now }
+    {
+        (self.raw.len() - 1) as u32
+    }
+
+    /// The value of a row, from 0, in a column, from 0 by the catalogue's order.
+    pub fn cell(&self, row: u32, column: u8) -> Cell<'_>
+        requires row_in_range { row < length self.now }
+        requires column_in_range { column < length (slice_index_or self.now row []) }
+        ensures { value_of_cell result ≡ slice_index_or (slice_index_or self.now row []) column (constant.Int (pos 0)) }
+    {
+        let column = self.columns[column as usize];
+        let field = self.raw.field(row as usize + 1, column.place);
+        match column.kind {
+            // A table has no column of integers with another field.
+            ColType::Int => Cell::Int(integer_of(field).unwrap_or(0)),
+            ColType::Text => Cell::Text(field),
+        }
+    }
+}
