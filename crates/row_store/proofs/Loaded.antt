@@ -1,12 +1,12 @@
 -- Records without a fault hold the table's rows.
-use Rattle.std.proofs.Common.{◌≡◌, ◌∙◌, sym, ap, refl, subst, ℕ, ◌+◌, ◌<◌, ◌≤◌, List, [], ◌∷◌, length, map, Option, Some, None, Bool, true, false, arith, nat_eq, slice_get, pos, Result, Ok, Err, get_or}
+use Rattle.std.proofs.Common.{◌≡◌, ◌∙◌, sym, ap, refl, subst, ℕ, ◌+◌, ◌<◌, ◌≤◌, List, [], ◌∷◌, length, map, Option, Some, None, true, arith, nat_eq, slice_get, pos, Result, Ok, Err, get_or}
 use Prim.Native.Nat.{zero, suc}
 use Rattle.std.specs.Prelude.{nat_le, option_map, option_and_then, unwrap_or, if◌then◌else◌}
 use Rattle.std.specs.Option.{is_some}
 use Rattle.std.proofs.lemmas.Bool.Decides.{nat_tests}
 use Rattle.std.proofs.lemmas.Option.{slice_get-get_or}
-use Rattle.star_model.specs.Data.{Record, all_of, header_of, place_in, places_in, field_at, value_in, values_at, row_in, rows_in, table_rows}
-use Rattle.star_model.specs.WellFormed.{WellFormedCatalogue, WellFormedTable, Each, none, more}
+use Rattle.star_model.specs.Data.{Record, all_of, header_of, place_in, field_at, value_in, values_at, row_in, rows_in}
+use Rattle.star_model.specs.WellFormed.{WellFormedCatalogue, WellFormedTable, Each, more}
 use Rattle.star_model.specs.declared.catalogue.Catalogue.{Catalogue}
 use Rattle.star_model.specs.declared.catalogue.TableDef.{TableDef}
 use Rattle.star_model.specs.declared.catalogue.ColumnDef.{ColumnDef}
@@ -16,8 +16,8 @@ use Rattle.row_store.specs.declared.header.Column.{Column}
 use Rattle.row_store.specs.declared.fault.TableFault.{TableFault}
 use Rattle.row_store.specs.declared.fault.TableFault.TheVariants.{BadHeader, TooManyRows, BadRow, BadField, Memory}
 use Rattle.row_store.specs.Columns.{column_in, columns_in}
-use Rattle.row_store.specs.Reading.{bad_column, row_fault, rows_fault}
-use Rattle.row_store.specs.Loading.{column_value, rows_with, first_fault, IsRowsOf, Opens, fault_in, AreLoaded, Loads}
+use Rattle.row_store.specs.Reading.{bad_column, rows_fault}
+use Rattle.row_store.specs.Loading.{column_value, rows_with, first_fault, IsRowsOf, Opens, AreLoaded, Loads}
 use Rattle.row_store.proofs.Collected.{tail_of}
 use Rattle.row_store.proofs.RowFaults.{clear_first, row_clear, clear_few}
 

@@ -1,13 +1,11 @@
 -- Steps of the search for a name that stands once.
-use Rattle.std.proofs.Common.{◌≡◌, ◌≢◌, ◌∙◌, sym, ap, refl, ℕ, ◌+◌, ◌-◌, ◌<◌, ◌≤◌, List, [], ◌∷◌, ◌++◌, length, take, drop, get_or, true, false, Bool, arith, cond, not, Option, Some, None, nat_eq}
-use Rattle.std.specs.Prelude.{if◌then◌else◌}
-use Rattle.std.specs.Option.{option_map, option_map_or, is_some}
-use Rattle.std.specs.List.{count_by, position, position_or_len}
-use Rattle.std.proofs.lemmas.List.{take_more, take_all, length-append, length-take-le, take-append-drop}
+use Rattle.std.proofs.Common.{◌≡◌, ◌∙◌, sym, ap, ℕ, ◌+◌, ◌<◌, List, [], ◌∷◌, ◌++◌, length, take, drop, get_or, true, false, Bool, arith, cond, not, Option, Some, None}
+use Rattle.std.specs.Option.{option_map_or}
+use Rattle.std.specs.List.{count_by, position}
+use Rattle.std.proofs.lemmas.List.{take_more, length-append, length-take-le, take-append-drop}
 use Rattle.std.proofs.lemmas.List.Sums.{count_by_more_yes, count_by_more_no, sum_by-append, prefix_len-le-length}
 use Rattle.std.proofs.lemmas.List.Folds.{position_or_len_push}
 use Rattle.std.proofs.lemmas.Bool.Decides.{nat_tests}
-use Rattle.std.proofs.lemmas.Grind.{common_steps}
 use Rattle.star_model.specs.Vectors.{same_numbers}
 use Rattle.star_model.specs.Data.{Record, place_in}
 

@@ -1,5 +1,5 @@
 -- The columns of a table: their kinds and their places in the header.
-use Rattle.std.specs.Prelude.{ℕ, List, map, Option, option_map}
+use Rattle.std.specs.Prelude.{List, map, Option, option_map}
 use Rattle.star_model.specs.Data.{Record, all_of, place_in}
 use Rattle.star_model.specs.declared.catalogue.TableDef.{TableDef}
 use Rattle.star_model.specs.declared.catalogue.ColumnDef.{ColumnDef}

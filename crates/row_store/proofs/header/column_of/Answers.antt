@@ -1,4 +1,4 @@
-use Rattle.std.proofs.Common.{◌≡◌, ◌∙◌, sym, ap, refl, ℕ, Some, None}
+use Rattle.std.proofs.Common.{◌∙◌, ap, ℕ}
 use Rattle.std.specs.Option.{option_map}
 use Rattle.star_model.specs.Data.{header_of, place_in}
 use Rattle.sb_outside.specs.Records.{record_at}

@@ -1,4 +1,4 @@
-use Rattle.std.proofs.Common.{◌≡◌, ◌<◌, ◌+◌, [], ◌∷◌, length, ◌∙◌, sym, ap, refl, Some, None}
+use Rattle.std.proofs.Common.{◌<◌, ◌+◌, [], ◌∷◌, length, ◌∙◌, sym, ap, Some}
 use Rattle.star_model.specs.Data.{header_of}
 use Rattle.sb_outside.specs.Records.{record_at}
 use Rattle.row_store.specs.declared.header.Column.{Column}

@@ -1,4 +1,4 @@
-use Rattle.std.proofs.Common.{◌≡◌, ◌<◌, ◌+◌, ◌∷◌, ◌∙◌, sym, ap, subst, refl, arith, [], true, false, ℕ, Option, Some, None, length, take, get_or, List}
+use Rattle.std.proofs.Common.{◌≡◌, ◌<◌, ◌+◌, ◌∷◌, ◌∙◌, sym, ap, refl, arith, [], true, false, ℕ, Option, Some, None, length, take, get_or, List}
 use Rattle.std.specs.Option.{is_some}
 use Rattle.star_model.specs.Vectors.{same_numbers}
 use Rattle.star_model.specs.Data.{Record, header_of, place_in}

@@ -1,4 +1,4 @@
-use Rattle.std.proofs.Common.{◌≡◌, true, ◌-◌, ◌^◌, take, drop, fold, min}
+use Rattle.std.proofs.Common.{◌≡◌, ◌-◌, ◌^◌, take, drop, min}
 use Rattle.std.specs.List.{list_all}
 use Rattle.star_model.specs.WellFormed.{is_digit}
 use Rattle.row_store.proofs.Integers.{spelled}

@@ -1,5 +1,3 @@
-use Rattle.std.proofs.Common.{◌≡◌, sym, ap, arith, get_or}
-use Rattle.star_model.specs.declared.catalogue.TableDef.{TableDef}
 use Rattle.row_store.proofs.Loaded.{few_columns, loads}
 use Rattle.row_store.proofs.loading.load.Goals as goal
 

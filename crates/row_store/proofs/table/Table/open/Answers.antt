@@ -1,4 +1,4 @@
-use Rattle.std.proofs.Common.{◌≡◌, ◌∙◌, sym, ap, arith, length, drop, None}
+use Rattle.std.proofs.Common.{◌≡◌, ◌∙◌, sym, arith, length, drop, None}
 use Rattle.sb_outside.specs.Records.{record_at}
 use Rattle.row_store.specs.Reading.{rows_fault}
 use Rattle.row_store.proofs.RowFaults.{few_records, equal_lengths}
