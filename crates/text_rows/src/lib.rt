@@ -1,8 +1,8 @@
 //! Tests of the readers of catalogues and queries, of the printer of catalogues and of the estimated number of rows.
 //!
 //! A table is a text with a row on each line: `TEXT => ANSWER`. The answer is the line of the fault, or `accepted` for a catalogue, or
-//! `card` and the estimated number of rows for a query. In a text a part between two `` ` ``
-//! begins with a number and stands for so many copies of the rest, each with its own number, from 1, for `@`; and `¶` is a line end.
+//! `card` and the estimated number of rows for a query. In a text a part between two `` ` `` begins with a number and stands for so many
+//! copies of the rest, each with its own number, from 1, for `@`. Each `¶` is a line end.
 //!
 //! The answers come from an independent program, which shares nothing with this repository.
 #![tactic(auto)]

@@ -39,9 +39,9 @@ index from on select(from) pages 0;
         ),
     ];
     for (text, wanted) in rows {
-        let printed = printed(rt.alloc(), text)?;
-        assert_eq!(rt; printed.as_str(), wanted);
-        let again = self::printed(rt.alloc(), wanted)?;
+        let first = printed(rt.alloc(), text)?;
+        assert_eq!(rt; first.as_str(), wanted);
+        let again = printed(rt.alloc(), first.as_str())?;
         assert_eq!(rt; again.as_str(), wanted);
     }
     Ok(())
