@@ -1,24 +1,16 @@
 -- A set of a query's predicates that a loop gathers.
 use Rattle.std.proofs.Common.{◌≡◌, ℕ, ◌+◌, ◌<◌, ◌≤◌, ◌≢◌, Bool, true, false, ◌&&◌, ◌||◌, List, [], ◌∷◌, zero, suc, length, refl, ap, sym, ◌∙◌, subst, nat_lt, nat_eq, arith, inl, inr}
 use Rattle.std.proofs.lemmas.Bool.{eqb-true, cases_eq}
-use Rattle.std.specs.Prelude.{slice_get, slice_index_or}
-use Rattle.std.specs.Option.{option_map_or}
+use Rattle.std.specs.Prelude.{slice_index_or}
 use Rattle.star_model.specs.Sets.{has, set_of, single, union}
 use Rattle.star_model.specs.Predicates.{preds_where}
 use Rattle.star_model.specs.declared.query.Query.{Query}
 use Rattle.star_model.specs.declared.query.Pred.{Pred}
+use Rattle.query_graph.specs.GatheredPredicates.{passes_at, gathered}
 use Rattle.star_model.proofs.Laws.{has-zero, has-union, has-single, has-set_of, same_set, set_of-lt, union-lt, single-lt}
-
--- whether the n-th is there and passes
-abbrev passes_at : List Pred → (Pred → Bool) → ℕ → Bool
-passes_at preds test n = option_map_or test (slice_get preds n) false
 
 abbrev passes_below : List Pred → (Pred → Bool) → ℕ → ℕ → Bool
 passes_below preds test k n = nat_lt n k && passes_at preds test n
-
--- those of the first k that pass
-abbrev pub gathered : List Pred → (Pred → Bool) → ℕ → ℕ
-gathered preds test k = set_of (λ n. passes_below preds test k n)
 
 same_tests : (p r : ℕ → Bool) → ((n : ℕ) → p n ≡ r n) → set_of p ≡ set_of r
 same_tests p r h = same_set (set_of p) (set_of r) (set_of-lt p) (set_of-lt r) (λ n l. has-set_of p n l ∙ h n ∙ sym (has-set_of r n l))

@@ -9,3 +9,4 @@ pub mod TypeTests
 pub mod Fitting
 pub mod UsedColumns
 pub mod TextFaults
+pub mod GatheredPredicates

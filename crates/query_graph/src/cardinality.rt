@@ -100,7 +100,8 @@ fn distinct_of(query: &Query, column: Col) -> Num
         .map_or(Num::cut(0), |column| column.distinct)
 }
 
-fn table_of(query: &Query, quant: u8) -> Option<&TableDef>
+/// The table of the quantifier at this position, if there is one.
+pub fn table_of(query: &Query, quant: u8) -> Option<&TableDef>
     ensures { option_copied result ≡ table_of query.now quant }
 {
     let quantifier = query.quants.as_slice().get(quant as usize)?;

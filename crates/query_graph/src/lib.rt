@@ -18,8 +18,8 @@ mod types;
 mod unread;
 pub mod words;
 
-pub use cardinality::card;
+pub use cardinality::{card, table_of};
 pub use fault::QueryFault;
 pub use read::read_query;
-pub use sets::{crossing, eligible, used};
+pub use sets::{crossing, eligible, lies_in, touches, used};
 pub use words::{ColumnWords, ComparisonWords, ConstantWords, ItemWords, QueryWords, SideWords};

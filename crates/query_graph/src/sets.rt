@@ -53,7 +53,8 @@ pub fn used(query: &Query, tables: QuantSet) -> ColSet
     found
 }
 
-fn lies_in(tables: QuantSet, pred: &Pred) -> bool
+/// Whether all of the predicate's quantifiers are in the set.
+pub fn lies_in(tables: QuantSet, pred: &Pred) -> bool
     ensures { result ≡ lies_in tables pred.now }
 {
     match &pred.right {
@@ -69,7 +70,8 @@ fn crosses(tables: QuantSet, pred: &Pred) -> bool
     touches(tables, pred) && !lies_in(tables, pred)
 }
 
-fn touches(tables: QuantSet, pred: &Pred) -> bool
+/// Whether one of the predicate's quantifiers is in the set.
+pub fn touches(tables: QuantSet, pred: &Pred) -> bool
     ensures { result ≡ touches tables pred.now }
 {
     match &pred.right {

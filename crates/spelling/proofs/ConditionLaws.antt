@@ -1,124 +1,141 @@
--- No condition, and no range, of the rule language is the beginning of another.
-use Rattle.std.proofs.Common.{◌≡◌, ℕ, List, [], ◌∷◌, ◌++◌, codes, refl, sym, ap, ◌∙◌, append_assoc}
+-- What conditions are spelled as is read as these, and nothing else is read. So none is the beginning of another.
+use Rattle.std.proofs.Common.{◌≡◌, ℕ, zero, suc, ◌-◌, ◌<◌, List, [], ◌∷◌, ◌++◌, length, Some, codes, refl, ap, ◌∙◌, arith}
 use Rattle.star_model.specs.declared.rules.ValueExpr.{ValueExpr}
 use Rattle.star_model.specs.declared.rules.Condition.{Condition}
 use Rattle.star_model.specs.declared.rules.Condition.TheVariants as plain
 use Rattle.star_model.specs.ConditionCases as condition
-use Rattle.star_model.specs.declared.rules.Range.{Range}
-use Rattle.star_model.specs.declared.rules.Range.TheVariants as range
-use Rattle.spelling.specs.Lexemes.{Lexeme, Word, right_bracket, comma}
-use Rattle.spelling.specs.Values.{value_lexemes, IsValue, call, condition_lexemes, IsCondition, range_lexemes, IsRange}
-use Rattle.spelling.proofs.Statements.{heads, tails, differ}
-use Rattle.spelling.proofs.ValueReading.{NoSquare, same_value}
-
--- ---- between brackets
-
--- these two are one where they begin one list, and what follows is of a kind
-abbrev pub Apart : {A : Type 0} → (A → List Lexeme) → (List Lexeme → Type 0) → A → A → Type 0
-Apart spell Follow x y = (r s : List Lexeme) → Follow r → Follow s → spell x ++ r ≡ spell y ++ s → (x ≡ y) × (r ≡ s)
-
-pub one_in : {A : Type 0} (spell : A → List Lexeme) (Follow : List Lexeme → Type 0) (x y : A) → ((t : List Lexeme) → Follow (right_bracket ∷ t)) → Apart spell Follow x y
-    → (word : List ℕ) (r s : List Lexeme) → call word (spell x ∷ []) ++ r ≡ call word (spell y ∷ []) ++ s → (x ≡ y) × (r ≡ s)
-one_in spell Follow x y follows apart word r s e =
-    let inner = tails _ _ _ (tails _ _ _ e) in
-    let one = apart (right_bracket ∷ r) (right_bracket ∷ s) (follows r) (follows s) (sym (append_assoc (spell x) (right_bracket ∷ []) r) ∙ inner ∙ append_assoc (spell y) (right_bracket ∷ []) s) in
-    (one.0, tails _ _ _ one.1)
-
-pub two_in : {A : Type 0} (spell : A → List Lexeme) (Follow : List Lexeme → Type 0) (x y x' y' : A) → ((t : List Lexeme) → Follow (right_bracket ∷ t)) → ((t : List Lexeme) → Follow (comma ∷ t))
-    → Apart spell Follow x x' → Apart spell Follow y y'
-    → (word : List ℕ) (r s : List Lexeme) → call word (spell x ∷ spell y ∷ []) ++ r ≡ call word (spell x' ∷ spell y' ∷ []) ++ s → (x ≡ x') × (y ≡ y') × (r ≡ s)
-two_in spell Follow x y x' y' follows commas apart apart' word r s e =
-    let inner = tails _ _ _ (tails _ _ _ e) in
-    let one = apart (comma ∷ (spell y ++ right_bracket ∷ r)) (comma ∷ (spell y' ++ right_bracket ∷ s)) (commas _) (commas _) (sym (ends (spell x) (spell y) r) ∙ inner ∙ ends (spell x') (spell y') s) in
-    let two = apart' (right_bracket ∷ r) (right_bracket ∷ s) (follows r) (follows s) (tails _ _ _ one.1) in
-    (one.0, two.0, tails _ _ _ two.1) where
-      ends : (a b rest : List Lexeme) → ((a ++ comma ∷ b) ++ right_bracket ∷ []) ++ rest ≡ a ++ comma ∷ (b ++ right_bracket ∷ rest)
-      ends a b rest = append_assoc (a ++ comma ∷ b) (right_bracket ∷ []) rest ∙ append_assoc a (comma ∷ b) (right_bracket ∷ rest)
+use Rattle.spelling.specs.declared.words.ConditionHead.{ConditionHead}
+use Rattle.spelling.specs.declared.words.ConditionHead.TheVariants as head
+use Rattle.spelling.specs.declared.words.UnaryTest.{UnaryTest}
+use Rattle.spelling.specs.declared.words.UnaryTest.TheVariants as unary
+use Rattle.spelling.specs.declared.words.BinaryTest.{BinaryTest}
+use Rattle.spelling.specs.declared.words.BinaryTest.TheVariants as binary
+use Rattle.spelling.specs.declared.words.Junction.{Junction}
+use Rattle.spelling.specs.declared.words.Junction.TheVariants as junction
+use Rattle.spelling.specs.Lexemes.{Lexeme, Word, right_bracket, comma, joined_by, bracketed}
+use Rattle.spelling.specs.Reading.{Reader, a_word}
+use Rattle.spelling.specs.Values.{value_lexemes, IsValue, condition_lexemes, IsCondition}
+use Rattle.spelling.specs.ValueReading.{one_at, two_at, value_at}
+use Rattle.spelling.specs.ConditionReading.{unary_of, binary_of, junction_of, conditional, condition_head, condition_by, condition_at}
+use Rattle.spelling.proofs.ReadingLaws.{a_word_reads, then_reads}
+use Rattle.spelling.proofs.Bracketed.{one_ends, two_ends, one_read, two_read, IsSpelled, ReadsSpelled, one_spelled, two_spelled, made_spelled}
+use Rattle.spelling.proofs.RuleHeads.{unary_test_word, binary_test_word, junction_word, unary_test_head, binary_test_head, junction_head, unary_test_lexemes, binary_test_lexemes, junction_lexemes, unary_test_is_condition, binary_test_is_condition, junction_is_condition, condition_word, condition_of_word}
+use Rattle.spelling.proofs.ValueReading.{len}
+use Rattle.spelling.proofs.RangeLaws.{one_value_is_read, two_values_are_read, one_value_spelled, two_values_spelled}
 
 abbrev pub Anything : List Lexeme → Type 0
 Anything r = Unit {0}
 
 module _ (scope : List (List ℕ)) where
-  one_value : (word : List ℕ) (v w : ValueExpr) (r s : List Lexeme) → IsValue scope v → IsValue scope w → call word (value_lexemes v ∷ []) ++ r ≡ call word (value_lexemes w ∷ []) ++ s → (v ≡ w) × (r ≡ s)
-  one_value word v w r s h k e = one_in value_lexemes (NoSquare scope) v w (λ t. refl) (λ r s p q f. same_value scope v w r s h k p q f) word r s e
+  deeper : (n : ℕ) (ws : List Lexeme) → 0 < n → condition_at scope n ws ≡ condition_by scope (n - 1) (condition_at scope (n - 1)) ws
+  unfolding condition_at
+  deeper zero ws h = absurd (omega arith)
+  deeper (suc n) ws h = let e : n ≡ suc n - 1 = omega arith in ap (λ k. condition_by scope k (condition_at scope k) ws) e
 
-  pub two_values : (word : List ℕ) (v w v' w' : ValueExpr) (r s : List Lexeme) → IsValue scope v → IsValue scope w → IsValue scope v' → IsValue scope w'
-      → call word (value_lexemes v ∷ value_lexemes w ∷ []) ++ r ≡ call word (value_lexemes v' ∷ value_lexemes w' ∷ []) ++ s → (v ≡ v') × (w ≡ w') × (r ≡ s)
-  two_values word v w v' w' r s h k h' k' e =
-      two_in value_lexemes (NoSquare scope) v w v' w' (λ t. refl) (λ t. refl)
-      (λ r s p q f. same_value scope v v' r s h h' p q f) (λ r s p q f. same_value scope w w' r s k k' p q f) word r s e
+  -- ---- what is spelled is read
 
-  -- ---- ranges
+  -- how the lexemes of a condition are read before any others
+  Claim : Condition → Type 0
+  Claim c = (n : ℕ) (rest : List Lexeme) → length (condition_lexemes c) < n → condition_at scope n (condition_lexemes c ++ rest) ≡ Some (c, rest)
 
-  range_word : Range → List ℕ
-  range_word (range.Indexes t) = codes "indexes"
-  range_word range.Sites = codes "sites"
-  range_word (range.Members v) = codes "members"
-  range_word (range.Each v) = codes "each"
+  one_condition_is_read : (c : Condition) (n : ℕ) (rest : List Lexeme) → Claim c → length (condition_lexemes c) < n
+      → one_at (condition_at scope n) (bracketed (joined_by comma (condition_lexemes c ∷ [])) ++ rest) ≡ Some (c, rest)
+  unfolding Claim
+  one_condition_is_read c n rest claim less =
+      one_read (condition_at scope n) c ((condition_lexemes c ++ right_bracket ∷ []) ++ rest) rest (ap (condition_at scope n) (one_ends (condition_lexemes c) rest) ∙ claim n (right_bracket ∷ rest) less)
 
-  range_front : (x : Range) (r : List Lexeme) → (rest : List Lexeme) × (range_lexemes x ++ r ≡ Word (range_word x) ∷ rest)
-  unfolding range_word
-  range_front (range.Indexes t) r = (_, refl)
-  range_front range.Sites r = (_, refl)
-  range_front (range.Members v) r = (_, refl)
-  range_front (range.Each v) r = (_, refl)
+  two_conditions_are_read : (c d : Condition) (n : ℕ) (rest : List Lexeme) → Claim c → Claim d → length (condition_lexemes c) < n → length (condition_lexemes d) < n
+      → two_at (condition_at scope n) (bracketed (joined_by comma (condition_lexemes c ∷ condition_lexemes d ∷ [])) ++ rest) ≡ Some ((c, d), rest)
+  unfolding Claim
+  two_conditions_are_read c d n rest claim claim' less fewer =
+      two_read (condition_at scope n) c d (((condition_lexemes c ++ comma ∷ condition_lexemes d) ++ right_bracket ∷ []) ++ rest) (condition_lexemes d ++ right_bracket ∷ rest) rest
+      (ap (condition_at scope n) (two_ends (condition_lexemes c) (condition_lexemes d) rest) ∙ claim n (comma ∷ (condition_lexemes d ++ right_bracket ∷ rest)) less)
+      (claim' n (right_bracket ∷ rest) fewer)
 
-  range_begins : (x y : Range) (r s : List Lexeme) → range_lexemes x ++ r ≡ range_lexemes y ++ s → Word (range_word x) ≡ Word (range_word y)
-  range_begins x y r s e = (heads _ _ _ _ (sym (range_front x r).1 ∙ e ∙ (range_front y s).1)).0
+  -- behind the first word, at the depth below
+  begun : (c : Condition) (n : ℕ) (ws rest : List Lexeme) → 0 < n → condition_by scope (n - 1) (condition_at scope (n - 1)) ws ≡ Some (c, rest) → condition_at scope n ws ≡ Some (c, rest)
+  begun c n ws rest h read = deeper n ws h ∙ read
 
-  pub same_range : (x y : Range) (r s : List Lexeme) → IsRange scope x → IsRange scope y → range_lexemes x ++ r ≡ range_lexemes y ++ s → (x ≡ y) × (r ≡ s)
-  unfolding range_word
-  same_range (range.Indexes t) (range.Indexes u) r s h k e = let one = one_value (codes "indexes") t u r s h k e in (ap (λ v. range.Indexes v) one.0, one.1)
-  same_range range.Sites range.Sites r s h k e = (refl, tails _ _ _ e)
-  same_range (range.Members t) (range.Members u) r s h k e = let one = one_value (codes "members") t u r s h k e in (ap (λ v. range.Members v) one.0, one.1)
-  same_range (range.Each t) (range.Each u) r s h k e = let one = one_value (codes "each") t u r s h k e in (ap (λ v. range.Each v) one.0, one.1)
-  same_range x y r s h k e = absurd (differ (range_word x) (range_word y) refl (range_begins x y r s e))
+  unary_claim : (f : UnaryTest) (v : ValueExpr) → IsValue scope v → Claim (unary_of f v)
+  unfolding Claim condition_by
+  unary_claim f v h = λ n rest less.
+      let e = unary_test_lexemes f v in
+      let l = ap length e in
+      let m = len (value_lexemes v) (right_bracket ∷ []) in
+      ap (λ ws. condition_at scope n (ws ++ rest)) e ∙ begun (unary_of f v) n _ rest (omega arith) (rw (unary_test_head f, one_value_is_read scope v (n - 1) rest h (omega (arith, l, m, less))) refl)
 
-  -- ---- conditions
+  binary_claim : (f : BinaryTest) (v w : ValueExpr) → IsValue scope v → IsValue scope w → Claim (binary_of f v w)
+  unfolding Claim condition_by
+  binary_claim f v w h h' = λ n rest less.
+      let e = binary_test_lexemes f v w in
+      let l = ap length e in
+      let m = len (value_lexemes v ++ comma ∷ value_lexemes w) (right_bracket ∷ []) in
+      let k = len (value_lexemes v) (comma ∷ value_lexemes w) in
+      ap (λ ws. condition_at scope n (ws ++ rest)) e
+      ∙ begun (binary_of f v w) n _ rest (omega arith) (rw (binary_test_head f, two_values_are_read scope v w (n - 1) rest h h' (omega (arith, l, m, k, less)) (omega (arith, l, m, k, less))) refl)
 
-  -- by the variants themselves, so that it computes at a part that isn't seen
-  condition_word : Condition → List ℕ
-  condition_word (plain.Empty v) = codes "empty"
-  condition_word (plain.Single v) = codes "single"
-  condition_word (plain.Same v w) = codes "same"
-  condition_word (plain.Within v w) = codes "within"
-  condition_word (plain.Begins v w) = codes "begins"
-  condition_word (plain.Not' _ _) = codes "not"
-  condition_word (plain.And' _ _ _ _) = codes "and"
-  condition_word (plain.Or' _ _ _ _) = codes "or"
+  not_claim : (c : Condition) → Claim c → Claim (condition.Not c)
+  unfolding Claim condition_lexemes condition_by condition_head
+  not_claim c claim = λ n rest less.
+      let m = len (condition_lexemes c) (right_bracket ∷ []) in
+      begun (condition.Not c) n _ rest (omega arith) (rw (one_condition_is_read c (n - 1) rest claim (omega (arith, m, less))) refl)
 
-  condition_front : (x : Condition) (r : List Lexeme) → (rest : List Lexeme) × (condition_lexemes x ++ r ≡ Word (condition_word x) ∷ rest)
-  unfolding condition_word condition_lexemes
-  condition_front (plain.Empty v) r = (_, refl)
-  condition_front (plain.Single v) r = (_, refl)
-  condition_front (plain.Same v w) r = (_, refl)
-  condition_front (plain.Within v w) r = (_, refl)
-  condition_front (plain.Begins v w) r = (_, refl)
-  condition_front (condition.Not c) r = (_, refl)
-  condition_front (condition.And c d) r = (_, refl)
-  condition_front (condition.Or c d) r = (_, refl)
+  junction_claim : (f : Junction) (c d : Condition) → Claim c → Claim d → Claim (junction_of f c d)
+  unfolding Claim condition_by
+  junction_claim f c d claim claim' = λ n rest less.
+      let e = junction_lexemes f c d in
+      let l = ap length e in
+      let m = len (condition_lexemes c ++ comma ∷ condition_lexemes d) (right_bracket ∷ []) in
+      let k = len (condition_lexemes c) (comma ∷ condition_lexemes d) in
+      ap (λ ws. condition_at scope n (ws ++ rest)) e
+      ∙ begun (junction_of f c d) n _ rest (omega arith) (rw (junction_head f, two_conditions_are_read c d (n - 1) rest claim claim' (omega (arith, l, m, k, less)) (omega (arith, l, m, k, less))) refl)
 
-  condition_begins : (x y : Condition) (r s : List Lexeme) → condition_lexemes x ++ r ≡ condition_lexemes y ++ s → Word (condition_word x) ≡ Word (condition_word y)
-  condition_begins x y r s e = (heads _ _ _ _ (sym (condition_front x r).1 ∙ e ∙ (condition_front y s).1)).0
+  all_claims : (c : Condition) → IsCondition scope c → Claim c
+  unfolding IsCondition
+  all_claims (plain.Empty v) h = unary_claim unary.Empty v h
+  all_claims (plain.Single v) h = unary_claim unary.Single v h
+  all_claims (plain.Same v w) h = binary_claim binary.Same v w h.0 h.1
+  all_claims (plain.Within v w) h = binary_claim binary.Within v w h.0 h.1
+  all_claims (plain.Begins v w) h = binary_claim binary.Begins v w h.0 h.1
+  all_claims (condition.Not c) h = not_claim c (all_claims c h)
+  all_claims (condition.And c d) h = junction_claim junction.And c d (all_claims c h.0) (all_claims d h.1)
+  all_claims (condition.Or c d) h = junction_claim junction.Or c d (all_claims c h.0) (all_claims d h.1)
 
-  two_conditions : (word : List ℕ) (c d c' d' : Condition) (r s : List Lexeme) → Apart condition_lexemes Anything c c' → Apart condition_lexemes Anything d d'
-      → call word (condition_lexemes c ∷ condition_lexemes d ∷ []) ++ r ≡ call word (condition_lexemes c' ∷ condition_lexemes d' ∷ []) ++ s → (c ≡ c') × (d ≡ d') × (r ≡ s)
-  two_conditions word c d c' d' r s one two e = two_in condition_lexemes Anything c d c' d' (λ t. tt) (λ t. tt) one two word r s e
+  pub condition_is_read : (n : ℕ) (c : Condition) (rest : List Lexeme) → IsCondition scope c → length (condition_lexemes c) < n → condition_at scope n (condition_lexemes c ++ rest) ≡ Some (c, rest)
+  unfolding Claim
+  condition_is_read n c rest h less = all_claims c h n rest less
 
-  pub same_condition : (x y : Condition) → IsCondition scope x → IsCondition scope y → Apart condition_lexemes Anything x y
-  unfolding condition_word condition_lexemes IsCondition
-  same_condition (plain.Empty v) (plain.Empty w) h k r s p q e = let one = one_value (codes "empty") v w r s h k e in (ap (λ x. plain.Empty x) one.0, one.1)
-  same_condition (plain.Single v) (plain.Single w) h k r s p q e = let one = one_value (codes "single") v w r s h k e in (ap (λ x. plain.Single x) one.0, one.1)
-  same_condition (plain.Same v w) (plain.Same t u) h k r s p q e =
-      let one = two_values (codes "same") v w t u r s h.0 h.1 k.0 k.1 e in ((λ i. plain.Same (one.0 i) (one.1 i)), one.2)
-  same_condition (plain.Within v w) (plain.Within t u) h k r s p q e =
-      let one = two_values (codes "within") v w t u r s h.0 h.1 k.0 k.1 e in ((λ i. plain.Within (one.0 i) (one.1 i)), one.2)
-  same_condition (plain.Begins v w) (plain.Begins t u) h k r s p q e =
-      let one = two_values (codes "begins") v w t u r s h.0 h.1 k.0 k.1 e in ((λ i. plain.Begins (one.0 i) (one.1 i)), one.2)
-  same_condition (condition.Not c) (condition.Not d) h k r s p q e =
-      let one = one_in condition_lexemes Anything c d (λ t. tt) (same_condition c d h k) (codes "not") r s e in ((λ i. condition.Not (one.0 i)), one.1)
-  same_condition (condition.And c d) (condition.And c' d') h k r s p q e =
-      let one = two_conditions (codes "and") c d c' d' r s (same_condition c c' h.0 k.0) (same_condition d d' h.1 k.1) e in ((λ i. condition.And (one.0 i) (one.1 i)), one.2)
-  same_condition (condition.Or c d) (condition.Or c' d') h k r s p q e =
-      let one = two_conditions (codes "or") c d c' d' r s (same_condition c c' h.0 k.0) (same_condition d d' h.1 k.1) e in ((λ i. condition.Or (one.0 i) (one.1 i)), one.2)
-  same_condition x y h k r s p q e = absurd (differ (condition_word x) (condition_word y) refl (condition_begins x y r s e))
+  -- ---- what is read is spelled
+
+  module _ (n : ℕ) (inner : Reader Condition) (sound : ReadsSpelled condition_lexemes (IsCondition scope) inner) where
+    -- a condition on values or conditions behind its word
+    abbrev Stands : List Lexeme → Condition → List Lexeme → Type 0
+    Stands ws c rest = IsSpelled condition_lexemes (IsCondition scope) ws c rest
+
+    conditional_spelled : (word : List ℕ) (h : ConditionHead) (xs ws : List Lexeme) (c : Condition) (rest : List Lexeme) → ((head.Other ≡ h → ⊥) → word ≡ condition_word h)
+        → xs ≡ Word word ∷ ws → conditional scope n inner h ws ≡ Some (c, rest) → Stands xs c rest
+    unfolding condition_word condition_lexemes IsCondition
+    conditional_spelled word (head.Unary f) xs ws c rest is first read =
+        made_spelled _ (IsValue scope) (one_at (value_at scope n)) (one_value_spelled scope n) condition_lexemes (IsCondition scope)
+        (unary_of f) (unary_test_word f) (unary_test_lexemes f) (unary_test_is_condition scope f) xs ws c rest (first ∙ ap (λ w. Word w ∷ ws) (is (λ e. cc))) read
+    conditional_spelled word (head.Binary f) xs ws c rest is first read =
+        made_spelled _ _ (two_at (value_at scope n)) (two_values_spelled scope n) condition_lexemes (IsCondition scope)
+        (λ p. binary_of f p.0 p.1) (binary_test_word f) (λ p. binary_test_lexemes f p.0 p.1) (λ p h. binary_test_is_condition scope f p.0 p.1 h.0 h.1) xs ws c rest (first ∙ ap (λ w. Word w ∷ ws) (is (λ e. cc))) read
+    conditional_spelled word head.Not xs ws c rest is first read =
+        made_spelled _ (IsCondition scope) (one_at inner) (one_spelled condition_lexemes (IsCondition scope) inner sound) condition_lexemes (IsCondition scope)
+        (λ c. condition.Not c) (codes "not") (λ c. refl) (λ c h. h) xs ws c rest (first ∙ ap (λ w. Word w ∷ ws) (is (λ e. cc))) read
+    conditional_spelled word (head.Junction f) xs ws c rest is first read =
+        made_spelled _ _ (two_at inner) (two_spelled condition_lexemes (IsCondition scope) inner sound) condition_lexemes (IsCondition scope)
+        (λ p. junction_of f p.0 p.1) (junction_word f) (λ p. junction_lexemes f p.0 p.1) (λ p h. junction_is_condition scope f p.0 p.1 h.0 h.1) xs ws c rest (first ∙ ap (λ w. Word w ∷ ws) (is (λ e. cc))) read
+    conditional_spelled word head.Other xs ws c rest is first read = absurd cc
+
+    condition_by_spelled : ReadsSpelled condition_lexemes (IsCondition scope) (condition_by scope n inner)
+    unfolding condition_by
+    condition_by_spelled ws c rest read =
+        then_reads a_word _ ws c rest read (λ word left first read2.
+        conditional_spelled word (condition_head word) ws left c rest (λ else_. condition_of_word word (condition_head word) refl else_) ((a_word_reads ws left word).0 first) read2)
+
+  pub condition_is_spelled : (n : ℕ) → ReadsSpelled condition_lexemes (IsCondition scope) (condition_at scope n)
+  unfolding condition_at
+  condition_is_spelled zero ws c rest read = absurd cc
+  condition_is_spelled (suc n) ws c rest read = condition_by_spelled n (condition_at scope n) (condition_is_spelled n) ws c rest read

@@ -11,8 +11,12 @@ mod QueryLaws
 mod DerivationLaws
 mod TokenForms
 mod Undoubling
-mod Readers
+mod FreeNames
+mod RuleHeads
+mod Bracketed
 mod ValueReading
+mod ValueSpelled
+mod RangeLaws
 mod ConditionLaws
 mod FormulaLaws
 mod FormulaSizes
@@ -34,3 +38,13 @@ mod ReadingLaws
 mod Signs
 mod WritingLaws
 mod Doubling
+mod RuleWordLaws
+mod PlanBrackets
+mod PlanSpelled
+mod PlanRead
+mod StarSpelled
+mod StarRead
+mod StarLaws
+mod Cut
+mod FormulaNumbers
+mod FormulaHeadLaws

@@ -1,11 +1,12 @@
 -- What is read from the front of a list of lexemes stood there, and nothing else is read.
 use Rattle.std.proofs.Common.{◌≡◌, ◌↔◌, ℕ, Bool, true, false, List, [], ◌∷◌, Some, refl, ap, ◌∙◌}
-use Rattle.std.proofs.lemmas.Option.{option_and_then_some, some_pair_parts}
+use Rattle.std.proofs.lemmas.Option.{some_pair_parts}
 use Rattle.std.specs.Prelude.{nat_eq}
 use Rattle.std.proofs.lemmas.Bool.{and_parts, eqb-true}
 use Rattle.star_model.specs.Vectors.{same_numbers}
 use Rattle.spelling.specs.Lexemes.{Lexeme, Word, Number, Text, Symbol}
-use Rattle.spelling.specs.Reading.{Reader, ◌>>=◌, the_word, the_symbol, a_word, a_number, a_text}
+use Rattle.spelling.specs.Reading.{the_word, the_symbol, a_word, a_number, a_text}
+pub use Rattle.spelling.specs.ReadingCases.{then_reads}
 use Rattle.spelling.proofs.Statements.{same_self}
 
 pub same_are : (xs ys : List ℕ) → same_numbers xs ys ≡ true → xs ≡ ys
@@ -79,8 +80,3 @@ a_text_reads lexemes rest bytes = (to lexemes, λ is. rw is refl)
     to (Number m ∷ left) read = absurd cc
     to (Text found ∷ left) read = let e = some_pair_parts found bytes left rest read in ap (λ b. Text b ∷ left) e.0 ∙ ap (λ l. Text bytes ∷ l) e.1
     to (Symbol found ∷ left) read = absurd cc
-
--- what is read by one reader after another is read by each
-pub then_reads : {A B P : Type 0} (first : Reader A) (next : A → Reader B) (lexemes : List Lexeme) (y : B) (rest : List Lexeme) → (first >>= next) lexemes ≡ Some (y, rest)
-    → ((x : A) (left : List Lexeme) → first lexemes ≡ Some (x, left) → next x left ≡ Some (y, rest) → P) → P
-then_reads first next lexemes y rest read k = option_and_then_some (λ found. next found.0 found.1) (first lexemes) (y, rest) read (λ x. k x.0 x.1)

@@ -20,3 +20,14 @@ pub mod FirstsCases
 pub mod Syntax
 pub mod Limits
 pub mod LimitsCases
+pub mod RuleLimits
+pub mod RuleLimitsCases
+pub mod ValueReading
+pub mod ConditionReading
+pub mod SeriesReading
+pub mod RuleWords
+pub mod PlanReading
+pub mod StarReading
+pub mod ReadingCases
+pub mod SeriesReadingCases
+pub mod FormulaHeads

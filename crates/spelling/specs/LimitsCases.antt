@@ -1,5 +1,5 @@
 -- The order of the limits tells them apart. (No clause of a function can say so of every property.)
-use Rattle.std.specs.Prelude.{◌≡◌, ◌≤◌, ℕ, List, [], ◌∷◌, slice_get, unwrap_or}
+use Rattle.std.specs.Prelude.{◌≡◌, ℕ, List, [], ◌∷◌, slice_get, unwrap_or}
 use Rattle.std.proofs.Common.{refl, sym, ap, ◌∙◌, arith}
 use Rattle.star_model.specs.declared.faults.LimitKind.{LimitKind}
 use Rattle.star_model.specs.declared.faults.LimitKind.TheVariants as limit

@@ -1,5 +1,5 @@
 -- Reading from the front of a list of lexemes.
-use Rattle.std.specs.Prelude.{◌≡◌, ℕ, List, [], ◌∷◌, Option, Some, None, option_and_then, if◌then◌else◌}
+use Rattle.std.specs.Prelude.{◌≡◌, ℕ, List, [], ◌∷◌, Option, Some, None, option_map, option_and_then, if◌then◌else◌}
 use Rattle.star_model.specs.Vectors.{same_numbers}
 use Rattle.spelling.specs.Lexemes.{Lexeme, Word, Number, Text, Symbol}
 
@@ -17,6 +17,10 @@ first >> next = λ lexemes. option_and_then (λ found. next found.1) (first lexe
 
 abbrev pub pure : {A : Type 0} → A → Reader A
 pure x = λ lexemes. Some (x, lexemes)
+
+-- this, where it is there; nothing is passed
+abbrev pub given : {A : Type 0} → Option A → Reader A
+given found = λ lexemes. option_map (λ x. (x, lexemes)) found
 
 -- this word
 abbrev pub the_word : List ℕ → Reader (Unit {0})
@@ -59,3 +63,19 @@ a_text (Symbol bytes ∷ rest) = None
 abbrev pub Reads : {A : Type 0} → Option (A × List Lexeme) → Option A → List Lexeme → Type 0
 Reads read (Some x) rest = read ≡ Some (x, rest)
 Reads read None rest = read ≡ None
+
+-- ---- choices
+
+abbrev pub chosen : {A B : Type 0} → Option (A × List Lexeme) → (A → Reader B) → Reader B → Reader B
+chosen None next other lexemes = other lexemes
+chosen (Some found) next other lexemes = next found.0 found.1
+
+-- where the first is there, what comes next behind it, and else the other
+abbrev pub either : {A B : Type 0} → Reader A → (A → Reader B) → Reader B → Reader B
+either first next other = λ lexemes. chosen (first lexemes) next other lexemes
+
+-- what was read, where nothing is left
+abbrev pub only : {A : Type 0} → Option (A × List Lexeme) → Option A
+only None = None
+only (Some (x, [])) = Some x
+only (Some (x, lexeme ∷ later)) = None

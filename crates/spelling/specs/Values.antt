@@ -1,5 +1,5 @@
 -- How the values, the ranges and the conditions of the rule language are written.
-use Rattle.std.specs.Prelude.{◌≡◌, ℕ, false, List, [], ◌∷◌, ◌++◌, unwrap_or, codes}
+use Rattle.std.specs.Prelude.{◌≡◌, ℕ, false, List, [], ◌∷◌, ◌++◌, min, unwrap_or, codes}
 use Rattle.star_model.specs.ValueCases.{WithOrder, WithSite, WithTemp, WithPath, Tables, Inside, Crossing, Between, Equalities, Indexable, Columns, Keys, Home, Union, Minus, Meet}
 use Rattle.star_model.specs.ConditionCases as condition
 use Rattle.star_model.specs.declared.rules.ValueExpr.{ValueExpr}
@@ -30,9 +30,9 @@ reserved_in_rules =
 abbrev pub IsName : List ℕ → Type 0
 IsName name = is_among reserved_in_rules name ≡ false
 
--- the place of a name among those that may be used, and 255 where it isn't one of them
+-- the place of a name among those that may be used, and 255 where it isn't one of the first 255
 abbrev pub place_among : List (List ℕ) → List ℕ → ℕ
-place_among scope name = unwrap_or (place_of name scope) 255
+place_among scope name = min 255 (unwrap_or (place_of name scope) 255)
 
 -- ---- values
 

@@ -49,8 +49,8 @@ fn value_of(digits: &[u8]) -> u64
     value
 }
 
-// The number that a token of the source says.
-fn number_of(source: &[u8], token: &Token) -> u64
+/// The number that a token of the source says.
+pub fn number_of(source: &[u8], token: &Token) -> u64
     requires token { IsTokenOf source.now token.now }
     requires number { token.now.kind ≡ TokenKind.Number }
     ensures { result ≡ digits_value 10 (text_of source.now token.now) }

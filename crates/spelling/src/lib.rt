@@ -4,10 +4,11 @@
 
 mod cursor;
 mod ending;
+pub mod flavours;
 pub mod theorems;
 pub mod words;
 mod writer;
 
-pub use cursor::{Cursor, same_lexeme, text_bytes};
+pub use cursor::{Cursor, number_of, same_lexeme, text_bytes};
 pub use ending::Ending;
 pub use writer::Writer;

@@ -1,12 +1,15 @@
 // The laws of the definitions, each the clause of a function that does nothing.
 
-ghost use Rattle.std.specs.Prelude.{◌≡◌, ◌↔◌, ◌+◌, ◌≤◌, ℕ, List, [], ◌∷◌, ◌++◌, length, map, true, None, Some};
+ghost use Rattle.std.specs.Prelude.{◌≡◌, ◌↔◌, ◌+◌, ◌<◌, ◌≤◌, ℕ, List, [], ◌∷◌, ◌++◌, length, map, codes, true, None, Some};
 ghost use Rattle.sb_text.specs.declared.token.Token.{Token};
 ghost use Rattle.std.specs.List.{AllPass};
 ghost use Rattle.sb_text.specs.Front.{in_comment};
 ghost use Rattle.sb_text.specs.Tokens.{lexed};
 ghost use Rattle.sb_text.specs.Statements.{parts};
-ghost use Rattle.spelling.specs.Lexemes.{Lexeme, Word, Number, Text, Symbol, IsStatements, lexemes_of, HasItem, Every};
+ghost use Rattle.sb_text.specs.Refusal.{AreTokens};
+ghost use Rattle.spelling.specs.Lexemes.{Lexeme, Word, Number, Text, Symbol, IsStatements, lexemes_of, statements_in, equals, HasItem, Every};
+ghost use Rattle.spelling.specs.Cursors.{part_said, IsPartOf};
+ghost use Rattle.spelling.specs.Limits.{HasGreatNumber};
 ghost use Rattle.spelling.specs.Layout.{spaced, line, layout, commented, IsLexeme};
 ghost use Rattle.spelling.specs.Reading.{the_word, the_symbol, a_word, a_number, a_text};
 ghost use Rattle.spelling.specs.Writing.{Written, whole, put, puts, ended, lines};
@@ -20,7 +23,15 @@ ghost use Rattle.spelling.specs.declared.words.FormulaWord.{FormulaWord};
 ghost use Rattle.spelling.specs.FormulaGrammar.{Spells, Whole};
 ghost use Rattle.spelling.specs.FormulaReading.{whole_at};
 ghost use Rattle.spelling.specs.Formulas.{SpellsFormula, formula_lexemes};
+ghost use Rattle.spelling.specs.Values.{IsName, value_lexemes, IsValue, range_lexemes, IsRange, condition_lexemes, IsCondition};
+ghost use Rattle.spelling.specs.ValueReading.{value_at, range_at, NoSquare};
+ghost use Rattle.spelling.specs.ConditionReading.{condition_at};
+ghost use Rattle.spelling.specs.Rules.{alternative_lexemes, IsAlternative, parameter_lexemes, SpellsStar, SpellsFormulaDef, formula_def_lexemes, rule_lexemes, SpellsRules, KeepsCounts};
+ghost use Rattle.spelling.specs.StarReading.{for_all_at, alternative_at, parameter_at, star_of};
 ghost use Rattle.spelling.specs.Rules.{SpellsStar, SpellsFormulaDef, formula_def_lexemes, rule_lexemes, SpellsRules, KeepsCounts};
+ghost use Rattle.spelling.specs.StarReading.{star_of};
+ghost use Rattle.spelling.specs.Flavours.{which_word, flavour_word};
+ghost use Rattle.spelling.specs.FormulaHeads.{FormulaHead, formula_head_at};
 ghost use Rattle.spelling.specs.Tiny.{tiny_lexemes, tiny_rules};
 ghost use Rattle.star_model.specs.Vectors.{same_numbers};
 ghost use Rattle.star_model.specs.Monotone.{nodes};
@@ -34,7 +45,13 @@ ghost use Rattle.star_model.specs.declared.catalogue.ColumnDef.{ColumnDef};
 ghost use Rattle.star_model.specs.declared.query.Query.{Query};
 ghost use Rattle.star_model.specs.declared.formula.Formula.{Formula};
 ghost use Rattle.star_model.specs.declared.derivations.Deriv.{Deriv};
+ghost use Rattle.star_model.specs.declared.rules.ValueExpr.{ValueExpr};
+ghost use Rattle.star_model.specs.declared.rules.Range.{Range};
+ghost use Rattle.star_model.specs.declared.rules.Condition.{Condition};
 ghost use Rattle.star_model.specs.declared.rules.RuleFile.{RuleFile};
+ghost use Rattle.star_model.specs.declared.rules.ForAll.{ForAll};
+ghost use Rattle.star_model.specs.declared.rules.Alternative.{Alternative};
+ghost use Rattle.star_model.specs.declared.rules.Param.{Param};
 ghost use Rattle.star_model.specs.declared.rules.StarDef.{StarDef};
 ghost use Rattle.star_model.specs.declared.rules.FormulaDef.{FormulaDef};
 
@@ -184,4 +201,54 @@ pub fn readers_read()
 /// The test of bytes decides that they are the same.
 pub fn same_numbers_are_same()
     ensures { (a b : List ℕ) → (same_numbers a b ≡ true) ↔ (a ≡ b) }
+{}
+
+/// A spelled value is read where enough may be open inside one another and no square bracket follows, and nothing else is read.
+pub fn values_are_read()
+    ensures read { (scope : List (List ℕ)) (n : ℕ) (v : ValueExpr) (rest : List Lexeme) → IsValue scope v → length (value_lexemes v) < n → NoSquare rest → value_at scope n (value_lexemes v ++ rest) ≡ Some (v, rest) }
+    ensures spelled { (scope : List (List ℕ)) (n : ℕ) (lexemes : List Lexeme) (v : ValueExpr) (rest : List Lexeme) → value_at scope n lexemes ≡ Some (v, rest) → (lexemes ≡ value_lexemes v ++ rest) × IsValue scope v }
+{}
+
+/// A spelled range is read where enough values may be open inside one another, and nothing else is read.
+pub fn ranges_are_read()
+    ensures read { (scope : List (List ℕ)) (n : ℕ) (r : Range) (rest : List Lexeme) → IsRange scope r → length (range_lexemes r) < n → range_at scope n (range_lexemes r ++ rest) ≡ Some (r, rest) }
+    ensures spelled { (scope : List (List ℕ)) (n : ℕ) (lexemes : List Lexeme) (r : Range) (rest : List Lexeme) → range_at scope n lexemes ≡ Some (r, rest) → (lexemes ≡ range_lexemes r ++ rest) × IsRange scope r }
+{}
+
+/// A spelled condition is read where enough values and conditions may be open inside one another, and nothing else is read.
+pub fn conditions_are_read()
+    ensures read { (scope : List (List ℕ)) (n : ℕ) (c : Condition) (rest : List Lexeme) → IsCondition scope c → length (condition_lexemes c) < n → condition_at scope n (condition_lexemes c ++ rest) ≡ Some (c, rest) }
+    ensures spelled { (scope : List (List ℕ)) (n : ℕ) (lexemes : List Lexeme) (c : Condition) (rest : List Lexeme) → condition_at scope n lexemes ≡ Some (c, rest) → (lexemes ≡ condition_lexemes c ++ rest) × IsCondition scope c }
+{}
+
+/// What is read of all of a statement's lexemes is the STAR that they spell, and nothing else is read.
+pub fn stars_are_read()
+    ensures { (n : ℕ) (lexemes : List Lexeme) (s : StarDef) → (star_of n lexemes ≡ Some s) ↔ SpellsStar n lexemes s }
+{}
+
+/// What is read as a part of a STAR is spelled so: a for-all clause behind its first word, an alternative, a parameter.
+pub fn parts_of_stars_are_read()
+    ensures for_all { (scope : List (List ℕ)) (depth : ℕ) (lexemes : List Lexeme) (f : ForAll) (rest : List Lexeme) → for_all_at scope depth lexemes ≡ Some (f, rest)
+        → (lexemes ≡ Word f.name ∷ Word (codes "in") ∷ (range_lexemes f.range ++ rest)) × IsName f.name × IsRange scope f.range }
+    ensures alternative { (parameters : List (List ℕ)) (depth : ℕ) (lexemes : List Lexeme) (a : Alternative) (rest : List Lexeme) → alternative_at parameters depth lexemes ≡ Some (a, rest)
+        → (lexemes ≡ alternative_lexemes a ++ rest) × IsAlternative parameters a }
+    ensures parameter { (lexemes : List Lexeme) (p : Param) (rest : List Lexeme) → parameter_at lexemes ≡ Some (p, rest) → (lexemes ≡ parameter_lexemes p ++ rest) × IsName p.name }
+{}
+
+/// The parts of a text's tokens are its statements. They are tokens of the text, and there are no more of them than bytes.
+pub fn statements_are_parts()
+    ensures said { (source : List ℕ) (tokens : List Token) → AreTokens source tokens → statements_in source ≡ map (part_said source) (parts tokens) }
+    ensures tokens { (source : List ℕ) (tokens : List Token) → AreTokens source tokens → Every (IsPartOf source) (parts tokens) }
+    ensures count { (source : List ℕ) (tokens : List Token) → AreTokens source tokens → length (parts tokens) ≤ length source }
+{}
+
+/// Where a number beyond the greatest stands in the spelling of a formula with the fewest brackets, one stands in each.
+pub fn great_numbers_are_in_each_spelling()
+    ensures { (lexemes : List Lexeme) (x : Formula) → SpellsFormula lexemes x → HasGreatNumber (formula_lexemes x) → HasGreatNumber lexemes }
+{}
+
+/// The head of a formula's statement is read as it is spelled, and nothing else is read.
+pub fn formula_heads_are_read()
+    ensures { (lexemes : List Lexeme) (head : FormulaHead) (rest : List Lexeme)
+        → (formula_head_at lexemes ≡ Some (head, rest)) ↔ (lexemes ≡ Word (which_word head.which) ∷ Word (flavour_word head.flavour) ∷ equals ∷ rest) }
 {}

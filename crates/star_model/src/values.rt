@@ -1,5 +1,8 @@
 // The values of the rule language.
 
+ghost use Rattle.std.specs.Prelude.{◌≡◌};
+ghost use Rattle.star_model.specs.declared.values.RuleValue.TheVariants as is;
+
 use crate::columns::{ColList, Site};
 use crate::plans::Require;
 use crate::sets::{PredSet, QuantSet};
@@ -21,4 +24,13 @@ pub enum RuleValue {
     Site(Site),
     /// The position of an index in the catalogue.
     Index(u8),
+}
+
+/// The empty set of quantifiers, which an unbound name stands for.
+impl Default for RuleValue {
+    ghost is_default = { λ v. v ≡ is.Quants 0 };
+
+    fn default() -> RuleValue {
+        RuleValue::Quants(QuantSet::empty())
+    }
 }

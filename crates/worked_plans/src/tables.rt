@@ -63,8 +63,8 @@ pub fn choices_of_rows()
     ensures values { values_of_columns query.pairs three_rows query.pairs.select (pair 0 2) ≡ integer 1 ∷ integer 2 ∷ [] }
     ensures earlier { is_earlier query.pairs three_rows query.pairs.order (pair 0 2) (pair 2 2) ≡ true }
     ensures later { is_earlier query.pairs three_rows query.pairs.order (pair 2 2) (pair 0 2) ≡ false }
-    ensures second_column { stands_before query.pairs three_rows (integer 1 ∷ integer 2 ∷ []) (integer 1 ∷ integer 3 ∷ []) ≡ true }
-    ensures first_column { stands_before query.pairs three_rows (integer 2 ∷ integer 1 ∷ []) (integer 1 ∷ integer 3 ∷ []) ≡ false }
+    ensures second_column { stands_before (integer 1 ∷ integer 2 ∷ []) (integer 1 ∷ integer 3 ∷ []) ≡ true }
+    ensures first_column { stands_before (integer 2 ∷ integer 1 ∷ []) (integer 1 ∷ integer 3 ∷ []) ≡ false }
     ensures tied { is_earlier query.pairs three_rows query.pairs.order (pair 0 2) (pair 1 1) ≡ false }
 {}
 

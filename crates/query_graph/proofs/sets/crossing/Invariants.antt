@@ -1,6 +1,6 @@
 use Rattle.std.proofs.Common.{◌≡◌, ◌&&◌, not}
 use Rattle.star_model.specs.Predicates.{lies_in, touches}
-use Rattle.query_graph.proofs.GatheringLaws.{gathered}
+use Rattle.query_graph.specs.GatheredPredicates.{gathered}
 use Rattle.query_graph.proofs.sets.crossing.Given as goal
 
 abbrev pub invariant-loop-n : goal.invariant-loop-n

@@ -1,6 +1,6 @@
 use Rattle.std.proofs.Common.{◌≡◌}
 use Rattle.star_model.specs.Predicates.{lies_in}
-use Rattle.query_graph.proofs.GatheringLaws.{gathered}
+use Rattle.query_graph.specs.GatheredPredicates.{gathered}
 use Rattle.query_graph.proofs.sets.eligible.Given as goal
 
 abbrev pub invariant-loop-n : goal.invariant-loop-n

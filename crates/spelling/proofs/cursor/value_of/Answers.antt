@@ -1,4 +1,4 @@
-use Rattle.std.proofs.Common.{arith, ◌≡◌, slice_index_or}
+use Rattle.std.proofs.Common.{arith}
 use Rattle.spelling.proofs.Numerals.{next_digit}
 use Rattle.spelling.proofs.cursor.value_of.Goals as goal
 
