@@ -1,9 +1,16 @@
 -- A value of the rows, by its row and its column.
-use Rattle.std.proofs.Common.{◌≡◌, ◌∙◌, sym, ap, refl, add-one, ℤ, Some, None, ℕ, ◌+◌, ◌<◌, List, [], ◌∷◌, length, map, drop, get_or, Option, arith, pos}
+use Rattle.std.proofs.Common.{◌≡◌, ◌∙◌, sym, ap, refl, add-one, ℤ, Some, None, ℕ, ◌+◌, ◌-◌, ◌<◌, List, [], ◌∷◌, length, map, drop, get_or, slice_get, Option, ◌≤◌, arith, pos, true, false}
 use Prim.Native.Nat.{zero, suc}
 use Rattle.std.specs.Prelude.{unwrap_or, option_map, All}
 use Rattle.star_model.specs.declared.catalogue.ColType.TheVariants as type
-use Rattle.std.proofs.lemmas.List.{length-map}
+use Rattle.std.specs.Option.{is_some, option_map_or}
+use Rattle.std.proofs.lemmas.Bool.{true≢false}
+use Rattle.row_store.specs.Reading.{has_value}
+use Rattle.std.proofs.lemmas.List.{length-map, length-drop, get_or_past}
+use Rattle.star_model.specs.WellFormed.{type_of_value}
+use Rattle.star_model.specs.declared.catalogue.ColType.{ColType}
+use Rattle.row_store.specs.Indexes.{value_at}
+use Rattle.row_store.specs.Comparing.{HaveTypes}
 use Rattle.sb_outside.specs.Records.{record_at}
 use Rattle.star_model.specs.Data.{Record, integer_in, field_at, value_in}
 use Rattle.star_model.specs.declared.catalogue.Value.{Value}
@@ -57,14 +64,56 @@ module _ (columns : List Column) (records : List Record) (rows : List (List Valu
       let place : column.place ≡ (get_or columns n column).place = ap (λ (c : Column). c.place) is in
       omega (arith, lengths (row + 1) behind_header)
 
-pub integer_value : (fields : Record) (column : Column) → column.kind ≡ type.Int → (n : ℤ) → n ≡ unwrap_or (integer_in (field_at fields column.place)) (pos 0)
+pub integer_value : (fields : Record) (column : Column) → column.kind ≡ type.Int → (n : ℤ) → Some n ≡ integer_in (field_at fields column.place)
     → constant.Int n ≡ unwrap_or (column_value fields column) (constant.Int (pos 0))
 integer_value fields column kind n is =
-    ap (λ m. constant.Int m) is ∙ moved (integer_in (field_at fields column.place)) ∙ ap (λ k. unwrap_or (value_in k (field_at fields column.place)) (constant.Int (pos 0))) (sym kind)
-  where
-    moved : (o : Option ℤ) → constant.Int (unwrap_or o (pos 0)) ≡ unwrap_or (option_map (λ m. constant.Int m) o) (constant.Int (pos 0))
-    moved None = refl
-    moved (Some m) = refl
+    ap (λ o. unwrap_or (option_map (λ m. constant.Int m) o) (constant.Int (pos 0))) is ∙ ap (λ k. unwrap_or (value_in k (field_at fields column.place)) (constant.Int (pos 0))) (sym kind)
+
+-- a column of integers with a value has an integer
+pub no_integer : (fields : Record) (columns : List Column) (n : ℕ) (column : Column) → n < length columns → column ≡ get_or columns n column
+    → All (λ column. has_value fields column ≡ true) columns → column.kind ≡ type.Int → integer_in (field_at fields column.place) ≡ None → ⊥
+no_integer fields columns n column within is values kind none =
+    let value : is_some (value_in column.kind (field_at fields column.place)) ≡ true = ap (has_value fields) is ∙ values n column within in
+    let no_value : is_some (value_in column.kind (field_at fields column.place)) ≡ false =
+    ap (λ k. is_some (value_in k (field_at fields column.place))) kind ∙ ap (λ o. is_some (option_map (λ m. constant.Int m) o)) none in
+    true≢false (sym value ∙ no_value)
 
 pub text_value : (fields : Record) (column : Column) → column.kind ≡ type.Text → constant.Text (field_at fields column.place) ≡ unwrap_or (column_value fields column) (constant.Int (pos 0))
 text_value fields column kind = ap (λ k. unwrap_or (value_in k (field_at fields column.place)) (constant.Int (pos 0))) (sym kind)
+
+pub row_count_is : (columns : List Column) (records : List Record) (rows : List (List Value)) → rows_with columns (drop 1 records) ≡ rows → length rows ≡ length records - 1
+row_count_is columns records rows are =
+    ap length (sym are) ∙ length-map (drop 1 records) (λ fields. map (λ column. unwrap_or (column_value fields column) (constant.Int (pos 0))) columns) ∙ length-drop 1 records
+
+-- ---- values by row and column, whether or not there are such
+
+pub past_rows : (rows : List (List Value)) (row column : ℕ) → length rows ≤ row → constant.Int (pos 0) ≡ value_at rows row column
+past_rows rows row column past = ap (λ values. get_or values column (constant.Int (pos 0))) (sym (get_or_past rows row [] past))
+
+pub past_columns : (rows : List (List Value)) (row column : ℕ) → length (get_or rows row []) ≤ column → constant.Int (pos 0) ≡ value_at rows row column
+past_columns rows row column past = sym (get_or_past (get_or rows row []) column (constant.Int (pos 0)) past)
+
+-- the type of the values in a column
+abbrev type_in : List Column → ℕ → ColType
+type_in columns n = option_map_or (λ column. column.kind) (slice_get columns n) type.Int
+
+type_of_field : (kind : ColType) (field : List ℕ) → type_of_value (unwrap_or (value_in kind field) (constant.Int (pos 0))) ≡ kind
+type_of_field type.Int field = at (integer_in field)
+  where
+    at : (o : Option ℤ) → type_of_value (unwrap_or (option_map (λ n. constant.Int n) o) (constant.Int (pos 0))) ≡ type.Int
+    at None = refl
+    at (Some n) = refl
+type_of_field type.Text field = refl
+
+type_of_column : (fields : Record) (columns : List Column) (n : ℕ)
+    → type_of_value (get_or (map (λ column. unwrap_or (column_value fields column) (constant.Int (pos 0))) columns) n (constant.Int (pos 0))) ≡ type_in columns n
+type_of_column fields [] n = refl
+type_of_column fields (c ∷ columns) zero = type_of_field c.kind (field_at fields c.place)
+type_of_column fields (c ∷ columns) (suc n) = type_of_column fields columns n
+
+pub have_types : (columns : List Column) (records : List Record) (rows : List (List Value)) → rows_with columns (drop 1 records) ≡ rows → HaveTypes rows
+have_types columns records rows are = λ a b column first second. at a column first ∙ sym (at b column second)
+  where
+    at : (row n : ℕ) → row < length rows → type_of_value (value_at rows row n) ≡ type_in columns n
+    at row n within =
+        ap (λ values. type_of_value (get_or values n (constant.Int (pos 0)))) (row_is columns records rows are row within) ∙ type_of_column (record_at records (row + 1)) columns n

@@ -2,49 +2,25 @@
 use Rattle.std.proofs.Common.{◌≡◌, ◌∙◌, sym, ap, refl, subst, ℕ, ◌+◌, ◌<◌, ◌≤◌, List, [], ◌∷◌, length, map, Option, Some, None, true, arith, nat_eq, slice_get, pos, Result, Ok, Err, get_or}
 use Prim.Native.Nat.{zero, suc}
 use Rattle.std.specs.Prelude.{nat_le, option_map, option_and_then, unwrap_or, if◌then◌else◌}
-use Rattle.std.specs.Option.{is_some}
+use Rattle.std.specs.Option.{is_some, IsSomeAnd}
 use Rattle.std.proofs.lemmas.Bool.Decides.{nat_tests}
-use Rattle.std.proofs.lemmas.Option.{slice_get-get_or}
-use Rattle.star_model.specs.Data.{Record, all_of, header_of, place_in, field_at, value_in, values_at, row_in, rows_in}
+use Rattle.star_model.specs.Data.{Record, all_of, header_of, values_at, row_in, rows_in}
 use Rattle.star_model.specs.WellFormed.{WellFormedCatalogue, WellFormedTable, Each, more}
 use Rattle.star_model.specs.declared.catalogue.Catalogue.{Catalogue}
 use Rattle.star_model.specs.declared.catalogue.TableDef.{TableDef}
-use Rattle.star_model.specs.declared.catalogue.ColumnDef.{ColumnDef}
 use Rattle.star_model.specs.declared.catalogue.Value.{Value}
 use Rattle.star_model.specs.declared.catalogue.Value.TheVariants as constant
 use Rattle.row_store.specs.declared.header.Column.{Column}
 use Rattle.row_store.specs.declared.fault.TableFault.{TableFault}
 use Rattle.row_store.specs.declared.fault.TableFault.TheVariants.{BadHeader, TooManyRows, BadRow, BadField, Memory}
-use Rattle.row_store.specs.Columns.{column_in, columns_in}
+use Rattle.row_store.specs.Columns.{columns_in}
 use Rattle.row_store.specs.Reading.{bad_column, rows_fault}
-use Rattle.row_store.specs.Loading.{column_value, rows_with, first_fault, IsRowsOf, Opens, AreLoaded, Loads}
-use Rattle.row_store.proofs.Collected.{tail_of}
+use Rattle.row_store.specs.Loading.{column_value, rows_with, first_fault, IsRowsOf, Opens}
+use Rattle.row_store.specs.Faults.{RecordsHave, HasFault, IsFirstFault, AreLoaded, Loads}
+use Rattle.row_store.proofs.HeaderColumns.{length-header, in_header}
+use Rattle.row_store.proofs.RowsFirst.{IsFirst, first_of}
+use Rattle.row_store.proofs.FirstFaults.{table_first}
 use Rattle.row_store.proofs.RowFaults.{clear_first, row_clear, clear_few}
-
--- ---- columns and their places
-
-pub in_header : (header : Record) (cs : List ColumnDef) (columns : List Column) → all_of (map (column_in header) cs) ≡ Some columns
-    → (all_of (map (λ c. place_in header c.name) cs) ≡ Some (map (λ c. c.place) columns))
-    × ((fields : Record) → values_at fields cs (map (λ c. c.place) columns) ≡ map (column_value fields) columns)
-in_header header [] [] is = (refl, λ fields. refl)
-in_header header [] (x ∷ xs) is = absurd cc
-in_header header (c ∷ cs) columns is = at (λ found h. in_header header cs found h) (place_in header c.name) columns is
-  where
-    at : ((found : List Column) → all_of (map (column_in header) cs) ≡ Some found → (all_of (map (λ c. place_in header c.name) cs) ≡ Some (map (λ c. c.place) found)) × ((fields : Record) → values_at fields cs (map (λ c. c.place) found) ≡ map (column_value fields) found)) → (o : Option ℕ) (columns : List Column)
-        → option_and_then (λ x. option_map (λ xs. x ∷ xs) (all_of (map (column_in header) cs))) (option_map (λ place. record { kind = c.kind; place = place }) o) ≡ Some columns
-        → (option_and_then (λ x. option_map (λ xs. x ∷ xs) (all_of (map (λ c. place_in header c.name) cs))) o ≡ Some (map (λ c. c.place) columns))
-        × ((fields : Record) → values_at fields (c ∷ cs) (map (λ c. c.place) columns) ≡ map (column_value fields) columns)
-    at law None columns is = absurd cc
-    at law (Some p) columns is =
-        let here : Column = record { kind = c.kind; place = p } in
-        let tail = tail_of here (all_of (map (column_in header) cs)) columns is in
-        let rest = law tail.0 tail.1 in
-        subst
-        (λ (found : List Column).
-        (option_map (λ xs. p ∷ xs) (all_of (map (λ c. place_in header c.name) cs)) ≡ Some (map (λ c. c.place) found))
-        × ((fields : Record) → values_at fields (c ∷ cs) (map (λ c. c.place) found) ≡ map (column_value fields) found))
-        (sym tail.2)
-        (ap (option_map (λ xs. p ∷ xs)) rest.0, λ fields. ap (λ vs. value_in c.kind (field_at fields p) ∷ vs) (rest.1 fields))
 
 -- ---- values
 
@@ -76,13 +52,9 @@ full_rows t columns places values count before (fields ∷ rows) clear =
     ∙ ap (λ o. option_and_then (λ x. option_map (λ xs. x ∷ xs) (all_of (map (row_in t count places) rows))) o) (ap all_of (values fields) ∙ full_values fields 0 columns row.1)
     ∙ ap (option_map (λ xs. map (λ column. unwrap_or (column_value fields column) (constant.Int (pos 0))) columns ∷ xs)) (full_rows t columns places values count (before + 1) rows parts.2)
 
-length-header : (fields : Record) → length (header_of fields) ≡ length fields
-length-header [] = refl
-length-header (f ∷ fs) = refl
-
 -- ---- the table
 
-rows_read : (t : TableDef) (header : Record) (behind : List Record) (columns : List Column) → columns_in (header_of header) t ≡ Some columns
+pub rows_read : (t : TableDef) (header : Record) (behind : List Record) (columns : List Column) → columns_in (header_of header) t ≡ Some columns
     → rows_fault columns (length header) 0 behind ≡ None → rows_in t (header_of header) behind ≡ Some (rows_with columns behind)
 rows_read t header behind columns is clear =
     let laws = in_header (header_of header) t.columns columns is in
@@ -102,19 +74,33 @@ each_at P (y ∷ xs) (suc n) x within is (more _ _ here rest) = each_at P xs n x
 pub few_columns : (c : Catalogue) (n : ℕ) (t : TableDef) → WellFormedCatalogue c → n < length c.tables → t ≡ get_or c.tables n t → length t.columns ≤ 32
 few_columns c n t formed within is = (each_at (WellFormedTable (length c.sites)) c.tables n t within is formed.tables).some_columns.1
 
-loaded : (c : Catalogue) (n : ℕ) (t : TableDef) (records : List Record) (rows : List (List Value)) → slice_get c.tables n ≡ Some t → IsRowsOf t records rows → AreLoaded c n records rows
-loaded c n t records rows at h =
-    let clear : rows_fault h.columns (length h.header) 0 h.behind ≡ None = rw (h.are, h.in_header) at h.clear in
-    record {
-      rows_are = rw (h.are, at) (rows_read t h.header h.behind h.columns h.in_header clear ∙ ap (λ rs. Some rs) (sym h.rows_are));
-      clear = ap (option_and_then (λ t. first_fault t records)) at ∙ h.clear;
-    }
+-- ---- the table of this number
 
-pub loads : (c : Catalogue) (n : ℕ) (t : TableDef) (records : List Record) (r : Result (List (List Value)) TableFault) → n < length c.tables → t ≡ get_or c.tables n t
-    → Opens t records r → Loads c n records r
-loads c n t records (Ok rows) within is h = loaded c n t records rows (slice_get-get_or c.tables n t within ∙ ap (λ x. Some x) (sym is)) h
-loads c n t records (Err BadHeader) within is h = ap (option_and_then (λ t. first_fault t records)) (slice_get-get_or c.tables n t within ∙ ap (λ x. Some x) (sym is)) ∙ h
-loads c n t records (Err TooManyRows) within is h = ap (option_and_then (λ t. first_fault t records)) (slice_get-get_or c.tables n t within ∙ ap (λ x. Some x) (sym is)) ∙ h
-loads c n t records (Err (BadRow row)) within is h = ap (option_and_then (λ t. first_fault t records)) (slice_get-get_or c.tables n t within ∙ ap (λ x. Some x) (sym is)) ∙ h
-loads c n t records (Err (BadField row column)) within is h = ap (option_and_then (λ t. first_fault t records)) (slice_get-get_or c.tables n t within ∙ ap (λ x. Some x) (sym is)) ∙ h
-loads c n t records (Err Memory) within is h = tt
+module _ (c : Catalogue) (n : ℕ) (t : TableDef) (records : List Record) (at : slice_get c.tables n ≡ Some t) where
+  of_table : (fault : TableFault) → HasFault c n records fault → RecordsHave t records fault
+  of_table fault has = subst (λ (o : Option TableDef). IsSomeAnd o (λ t. RecordsHave t records fault)) at has
+
+  in_catalogue : (fault : TableFault) → RecordsHave t records fault → HasFault c n records fault
+  in_catalogue fault has = subst (λ (o : Option TableDef). IsSomeAnd o (λ t. RecordsHave t records fault)) (sym at) has
+
+  pub first_in : IsFirst (HasFault c n records) (first_fault t records)
+  first_in = first_of (RecordsHave t records) (HasFault c n records) in_catalogue of_table (first_fault t records) (table_first t records)
+
+  loaded : (rows : List (List Value)) → IsRowsOf t records rows → AreLoaded c n records rows
+  loaded rows h =
+      let clear : rows_fault h.columns (length h.header) 0 h.behind ≡ None = rw (h.are, h.in_header) at h.clear in
+      record {
+        rows_are = rw (h.are, at) (rows_read t h.header h.behind h.columns h.in_header clear ∙ ap (λ rs. Some rs) (sym h.rows_are));
+        clear = subst (IsFirst (HasFault c n records)) h.clear first_in;
+      }
+
+  refused : (fault : TableFault) → first_fault t records ≡ Some fault → IsFirstFault c n records fault
+  refused fault is = let first : IsFirst (HasFault c n records) (Some fault) = subst (IsFirst (HasFault c n records)) is first_in in record { has = first.0; first = first.1 }
+
+pub loads : (c : Catalogue) (n : ℕ) (t : TableDef) (records : List Record) (r : Result (List (List Value)) TableFault) → slice_get c.tables n ≡ Some t → Opens t records r → Loads c n records r
+loads c n t records (Ok rows) at h = loaded c n t records at rows h
+loads c n t records (Err BadHeader) at h = refused c n t records at BadHeader h
+loads c n t records (Err TooManyRows) at h = refused c n t records at TooManyRows h
+loads c n t records (Err (BadRow row)) at h = refused c n t records at (BadRow row) h
+loads c n t records (Err (BadField row column)) at h = refused c n t records at (BadField row column) h
+loads c n t records (Err Memory) at h = tt

@@ -1,8 +1,7 @@
--- What the records of a table's file give: its rows, or the fault that is read first.
-use Rattle.std.specs.Prelude.{◌≡◌, ℕ, List, [], ◌∷◌, length, map, slice_get, Option, Some, None, Result, Ok, Err, pos, unwrap_or, option_and_then}
+-- What the opening of a table finds in its records: the rows, or the fault that is read first.
+use Rattle.std.specs.Prelude.{◌≡◌, List, [], ◌∷◌, length, map, Option, Some, None, Result, Ok, Err, pos, unwrap_or}
 use Rattle.std.specs.Option.{option_map_or}
-use Rattle.star_model.specs.Data.{Record, header_of, field_at, value_in, table_rows}
-use Rattle.star_model.specs.declared.catalogue.Catalogue.{Catalogue}
+use Rattle.star_model.specs.Data.{Record, header_of, field_at, value_in}
 use Rattle.star_model.specs.declared.catalogue.TableDef.{TableDef}
 use Rattle.star_model.specs.declared.catalogue.Value.{Value}
 use Rattle.star_model.specs.declared.catalogue.Value.TheVariants as constant
@@ -35,22 +34,8 @@ pub record IsRowsOf (t : TableDef) (records : List Record) (rows : List (List Va
   pub in_header : columns_in (header_of header) t ≡ Some columns
   pub rows_are : rows ≡ rows_with columns behind
 
+-- what opening a table answers
 abbrev pub Opens : TableDef → List Record → Result (List (List Value)) TableFault → Type 0
 Opens t records (Ok rows) = IsRowsOf t records rows
 Opens t records (Err Memory) = Unit {0}
 Opens t records (Err fault) = first_fault t records ≡ Some fault
-
--- the fault of the records of this table of the catalogue that is read first
-abbrev pub fault_in : Catalogue → ℕ → List Record → Option TableFault
-fault_in c n records = option_and_then (λ t. first_fault t records) (slice_get c.tables n)
-
--- the rows, where there is no fault
-pub record AreLoaded (c : Catalogue) (n : ℕ) (records : List Record) (rows : List (List Value)) : Type 0 where
-  pub rows_are : table_rows c n records ≡ Some rows
-  pub clear : fault_in c n records ≡ None
-
--- what loading a table answers; want of memory may come at any records
-abbrev pub Loads : Catalogue → ℕ → List Record → Result (List (List Value)) TableFault → Type 0
-Loads c n records (Ok rows) = AreLoaded c n records rows
-Loads c n records (Err Memory) = Unit {0}
-Loads c n records (Err fault) = fault_in c n records ≡ Some fault

@@ -1,13 +1,16 @@
-//! The rows of tables, from the records of their files.
+//! The rows of tables, from the records of their files, and their orders by columns.
 #![tactic(auto)]
 
 pub mod fault;
 mod header;
+mod index;
 mod integer;
 mod loading;
 mod rows;
 mod table;
+pub mod theorems;
 
 pub use fault::TableFault;
+pub use index::{RowOrder, build_index};
 pub use loading::load;
 pub use table::{Cell, Table};

@@ -1,7 +1,7 @@
 // The loading of a table of the catalogue.
 ghost use Rattle.std.specs.Prelude.{◌<◌, length};
 ghost use Rattle.star_model.specs.WellFormed.{WellFormedCatalogue};
-ghost use Rattle.row_store.specs.Loading.{Loads};
+ghost use Rattle.row_store.specs.Faults.{Loads};
 
 use crate::fault::TableFault;
 use crate::table::Table;

@@ -1,8 +1,10 @@
 // Tables: the rows of their records.
-ghost use Rattle.std.specs.Prelude.{◌≡◌, ◌<◌, ◌≤◌, [], length, slice_index_or, pos};
-ghost use Rattle.star_model.specs.declared.catalogue.Value.TheVariants as constant;
+ghost use Rattle.std.specs.Prelude.{◌≡◌, ◌<◌, ◌≤◌, [], length, slice_index_or, IfOk};
+ghost use Rattle.std.specs.List.{range_with_len};
 ghost use Rattle.row_store.specs.Loading.{Opens};
 ghost use Rattle.row_store.specs.Cells.{value_of_cell};
+ghost use Rattle.row_store.specs.Indexes.{value_at};
+ghost use Rattle.row_store.specs.Comparing.{HaveTypes};
 
 use crate::fault::TableFault;
 use crate::header::{Column, columns_of};
@@ -10,7 +12,7 @@ use crate::integer::integer_of;
 use crate::rows::rows_fault;
 use sb_outside::RawTable;
 use star_model::catalogue::{ColType, TableDef};
-use std::alloc::Global;
+use std::alloc::{AllocError, Global};
 use std::marker::Model;
 
 /// The rows of a table. Each has a value for each column, by the catalogue's order.
@@ -66,7 +68,8 @@ impl Table {
 
     /// How many rows there are: at most 200,000.
     pub fn rows(&self) -> u32
-        ensures { result ≡ length self.now }
+        ensures count { result ≡ length self.now }
+        ensures few { result ≤ 200000 }
     {
         (self.raw.len() - 1) as u32
     }
@@ -75,14 +78,38 @@ impl Table {
     pub fn cell(&self, row: u32, column: u8) -> Cell<'_>
         requires row_in_range { row < length self.now }
         requires column_in_range { column < length (slice_index_or self.now row []) }
-        ensures { value_of_cell result ≡ slice_index_or (slice_index_or self.now row []) column (constant.Int (pos 0)) }
+        ensures { value_of_cell result ≡ value_at self.now row column }
     {
         let column = self.columns[column as usize];
         let field = self.raw.field(row as usize + 1, column.place);
         match column.kind {
-            // A table has no column of integers with another field.
-            ColType::Int => Cell::Int(integer_of(field).unwrap_or(0)),
+            ColType::Int => {
+                let Some(number) = integer_of(field) else {
+                    unreachable!()
+                };
+                Cell::Int(number)
+            }
             ColType::Text => Cell::Text(field),
         }
+    }
+
+    /// The same, and 0 past the last row or column.
+    pub(crate) fn cell_or_zero(&self, row: u32, column: u8) -> Cell<'_>
+        ensures { value_of_cell result ≡ value_at self.now row column }
+    {
+        if row < self.rows() && (column as usize) < self.columns.len() {
+            self.cell(row, column)
+        } else {
+            Cell::Int(0)
+        }
+    }
+
+    /// The numbers of the rows, from 0. Of the values in a column all have one type.
+    pub(crate) fn row_numbers(&self, alloc: Global) -> Result<Vec<u32>, AllocError>
+        ensures numbers { IfOk result (λ numbers. numbers.items ≡ range_with_len 0 (length self.now)) }
+        ensures types { HaveTypes self.now }
+    {
+        let count = self.raw.len() - 1;
+        (0..count as u32).collect(alloc)
     }
 }

@@ -1,3 +1,5 @@
+use Rattle.std.proofs.Common.{refl, length}
+use Rattle.std.proofs.lemmas.Option.{slice_get_read}
 use Rattle.row_store.proofs.Loaded.{few_columns, loads}
 use Rattle.row_store.proofs.loading.load.Goals as goal
 
@@ -7,4 +9,6 @@ open-requires c =
 
 pub returns : goal.returns
 returns c =
-    loads c.args.catalogue.now c.args.table c.index-as_slice-table.result c.args.raw c.open.result c.requires.table (rw c.as_slice.ensures at c.index-as_slice-table.is) c.open.ensures
+    loads c.args.catalogue.now c.args.table c.index-as_slice-table.result c.args.raw c.open.result
+    (slice_get_read c.args.catalogue.now.tables (length c.args.catalogue.now.tables) c.args.table c.index-as_slice-table.result refl c.requires.table (rw c.as_slice.ensures at c.index-as_slice-table.is))
+    c.open.ensures

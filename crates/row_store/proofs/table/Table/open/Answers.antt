@@ -1,7 +1,7 @@
 use Rattle.std.proofs.Common.{◌≡◌, ◌∙◌, sym, arith, length, drop, None}
 use Rattle.sb_outside.specs.Records.{record_at}
 use Rattle.row_store.specs.Reading.{rows_fault}
-use Rattle.row_store.proofs.RowFaults.{few_records, equal_lengths}
+use Rattle.row_store.proofs.RowFaults.{few_records, equal_lengths, all_values}
 use Rattle.row_store.proofs.table.Table.open.Goals as goal
 
 pub invariant_of-result : goal.invariant_of-result
@@ -14,4 +14,5 @@ invariant_of-result c =
       few_columns = omega (arith, rw c.in-Some.is at c.in_ok-columns.ensures.count);
       in_range = rw c.in-Some.is at c.in_ok-columns.ensures.in_range;
       lengths = equal_lengths c.in-Some.columns.items c.args.raw (omega arith) clear;
+      values = all_values c.in-Some.columns.items c.args.raw (omega arith) clear;
     }
