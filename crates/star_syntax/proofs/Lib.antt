@@ -1,0 +1,25 @@
+mod Looking
+mod Places
+mod Requirements
+mod Depth
+mod PrintedLists
+mod PrintedValues
+mod PrintedConditions
+mod PrintedPlans
+mod SortedDefinitions
+mod PrintedFile
+mod Loops
+mod Parts
+mod PlanDepth
+mod ForAlls
+mod Joined
+mod Counting
+mod FormulaDefLaws
+mod DefinitionLaws
+mod LimitLaws
+mod StarCounts
+mod SoFarLaws
+mod ReadLaws
+mod WellFormedLaws
+mod FaultLaws
+pub mod Laws

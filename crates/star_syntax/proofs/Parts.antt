@@ -1,0 +1,25 @@
+-- The parts of STARs, as items of lists.
+use Rattle.std.proofs.Common.{ℕ, List, codes}
+use Rattle.spelling.specs.Lexemes.{comma, bar}
+use Rattle.spelling.specs.Values.{IsName, value_lexemes, IsValue}
+use Rattle.spelling.specs.Rules.{alternative_lexemes, IsAlternative, parameter_lexemes}
+use Rattle.spelling.specs.Reading.{the_symbol}
+use Rattle.spelling.specs.SeriesReadingCases.{Spells, Separates}
+use Rattle.spelling.specs.ValueReading.{value_at}
+use Rattle.spelling.specs.StarReading.{alternative_at, parameter_at}
+use Rattle.spelling.proofs.Laws.{the_symbol_reads, value_is_spelled, alternative_spelled, parameter_spelled}
+
+pub commas : Separates (the_symbol (codes ",")) comma
+commas = the_symbol_reads (codes ",")
+
+pub bars : Separates (the_symbol (codes "|")) bar
+bars = the_symbol_reads (codes "|")
+
+pub value_is : (scope : List (List ℕ)) (depth : ℕ) → Spells (value_at scope depth) value_lexemes (IsValue scope)
+value_is scope depth = value_is_spelled scope depth
+
+pub alternative_is : (parameters : List (List ℕ)) (depth : ℕ) → Spells (alternative_at parameters depth) alternative_lexemes (IsAlternative parameters)
+alternative_is parameters depth = alternative_spelled parameters depth
+
+pub parameter_is : Spells parameter_at parameter_lexemes (λ p. IsName p.name)
+parameter_is = parameter_spelled

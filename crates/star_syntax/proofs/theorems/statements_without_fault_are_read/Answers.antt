@@ -1,0 +1,8 @@
+use Rattle.star_syntax.proofs.Laws.{no_fault, rules_formed}
+use Rattle.star_syntax.proofs.theorems.statements_without_fault_are_read.Goals as goal
+
+pub returns-clause-clear : goal.returns-clause-clear
+returns-clause-clear c = no_fault
+
+pub returns-clause-formed : goal.returns-clause-formed
+returns-clause-formed c = rules_formed

@@ -1,0 +1,55 @@
+-- The limits of a statement as tests, in their order.
+use Rattle.std.specs.Prelude.{ℕ, Bool, false, nat_lt, nat_le, length, Option, Some, None, if◌then◌else◌}
+use Rattle.std.specs.List.{list_any}
+use Rattle.star_model.specs.Numbers.{top}
+use Rattle.star_model.specs.Monotone.{nodes}
+use Rattle.star_model.specs.declared.faults.LimitKind.{LimitKind}
+use Rattle.star_model.specs.declared.faults.LimitKind.TheVariants as limit
+use Rattle.star_model.specs.declared.rules.StarDef.{StarDef}
+use Rattle.star_model.specs.declared.rules.Alternative.{Alternative}
+use Rattle.star_model.specs.declared.rules.FormulaDef.{FormulaDef}
+use Rattle.spelling.specs.Lexemes.{Lexeme, Word, Number, Text, Symbol}
+use Rattle.spelling.specs.Rules.{Definition, OfFormula, OfStar}
+use Rattle.spelling.specs.RuleLimits.{RuleStatement, nesting}
+
+abbrev pub is_great : Lexeme → Bool
+is_great (Number n) = nat_lt top n
+is_great (Word bytes) = false
+is_great (Text bytes) = false
+is_great (Symbol bytes) = false
+
+abbrev pub is_long : Lexeme → Bool
+is_long (Word bytes) = nat_lt 64 (length bytes)
+is_long (Number n) = false
+is_long (Text bytes) = false
+is_long (Symbol bytes) = false
+
+abbrev pub has_many_ranges : Alternative → Bool
+has_many_ranges a = nat_lt 2 (length a.ranges)
+
+abbrev pub is_deep : Alternative → Bool
+is_deep a = nat_lt 8 (nesting a.body)
+
+-- the first limit that a STAR goes beyond, behind so many STARs
+abbrev pub star_limit : ℕ → StarDef → Option LimitKind
+star_limit stars s =
+    if nat_lt 8 (length s.params) then Some limit.Params
+    else if nat_lt 16 (length s.alternatives) then Some limit.Alternatives
+    else if list_any has_many_ranges s.alternatives then Some limit.ForAlls
+    else if nat_le 64 stars then Some limit.Stars
+    else if list_any is_deep s.alternatives then Some limit.Depth
+    else None
+
+abbrev pub formula_limit : FormulaDef → Option LimitKind
+formula_limit d = if nat_lt 256 (length (nodes d.formula)) then Some limit.Formula else None
+
+abbrev pub definition_limit : ℕ → Definition → Option LimitKind
+definition_limit stars (OfFormula d) = formula_limit d
+definition_limit stars (OfStar s) = star_limit stars s
+
+-- the first limit that the statement goes beyond
+abbrev pub limit_beyond : ℕ → RuleStatement → Option LimitKind
+limit_beyond stars statement =
+    if list_any is_great statement.lexemes then Some limit.Number
+    else if list_any is_long statement.lexemes then Some limit.Name
+    else definition_limit stars statement.defines

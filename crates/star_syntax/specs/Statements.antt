@@ -1,0 +1,65 @@
+-- What the statements of a rule file come to, one after the other.
+use Rattle.std.specs.Prelude.{◌≡◌, ℕ, true, List, [], ◌∷◌, ◌++◌, length, map, Option, Some, None, option_map, Result, Ok, Err}
+use Rattle.star_model.specs.declared.faults.LimitKind.{LimitKind}
+use Rattle.star_model.specs.declared.faults.RuleFault.{RuleFault}
+use Rattle.star_model.specs.declared.faults.RuleFault.TheVariants as fault
+use Rattle.star_model.specs.declared.rules.RuleFile.{RuleFile}
+use Rattle.spelling.specs.Lexemes.{Lexeme, MaybeEnded}
+use Rattle.spelling.specs.Firsts.{NoneHas}
+use Rattle.spelling.specs.Syntax.{IsUnderstood, IsStrangeAt}
+use Rattle.spelling.specs.Rules.{Definition, OfFormula, OfStar, SpellsDefinitions}
+use Rattle.spelling.specs.RuleLimits.{RuleStatement, SpellsDefinition, SpellsNumbered, AreSpelled, SaysRules, IsBeyond, count_of_stars}
+use Rattle.star_syntax.specs.declared.unread.Unread.{Unread}
+use Rattle.star_syntax.specs.declared.unread.Unread.TheVariants.{Strange, Memory}
+use Rattle.star_syntax.specs.declared.statements.RulesSoFar.{RulesSoFar}
+use Rattle.star_syntax.specs.Faults.{IsLimitAt}
+use Rattle.star_syntax.specs.LimitTests.{limit_beyond}
+
+-- the lexemes of each statement
+abbrev pub lists_of : List RuleStatement → List (List Lexeme)
+lists_of statements = map (λ s. s.lexemes) statements
+
+-- the first, or else the second
+abbrev pub found_or : {A : Type 0} → Option A → Option A → Option A
+found_or (Some x) other = Some x
+found_or None other = other
+
+abbrev pub with_definition : RuleFile → Definition → RuleFile
+with_definition rules (OfFormula d) = record rules { formulas = rules.formulas ++ d ∷ [] }
+with_definition rules (OfStar s) = record rules { stars = rules.stars ++ s ∷ [] }
+
+-- the statement with this number is the first beyond a limit, and this is the first limit that it goes beyond; or none is
+abbrev pub IsFirstLimit : List RuleStatement → Option (ℕ × LimitKind) → Type 0
+IsFirstLimit statements None = NoneHas IsBeyond statements
+IsFirstLimit statements (Some found) = IsLimitAt statements found.0 found.1
+
+-- this is what the statements define, and the first limit that one of them goes beyond
+pub record AreSoFar (statements : List RuleStatement) (read : RulesSoFar) : Type 0 where
+  pub spelled : AreSpelled 1 statements
+  pub define : SpellsDefinitions 1 (lists_of statements) read.rules.formulas read.rules.stars
+  pub stars : length read.rules.stars ≡ count_of_stars statements
+  pub limit : IsFirstLimit statements read.beyond
+
+-- the first limit that was gone beyond, where the statement with this number comes next
+abbrev pub limit_so_far : RulesSoFar → ℕ → RuleStatement → Option (ℕ × LimitKind)
+limit_so_far before n statement = found_or before.beyond (option_map (λ what. (n, what)) (limit_beyond (length before.rules.stars) statement))
+
+-- the statement with this number goes on with those so far
+pub record GoesOn (n : ℕ) (statement : MaybeEnded) (before after : RulesSoFar) : Type 0 where
+  pub ended : statement.1 ≡ true
+  pub defines : Definition
+  pub spelled : SpellsNumbered n statement.0 defines
+  pub rules : after.rules ≡ with_definition before.rules defines
+  pub beyond : after.beyond ≡ limit_so_far before n (record { lexemes = statement.0; defines = defines })
+
+abbrev pub StatementRead : ℕ → MaybeEnded → RulesSoFar → Result (Unit {0}) Unread → RulesSoFar → Type 0
+StatementRead n statement before (Ok done) after = GoesOn n statement before after
+StatementRead n statement before (Err Strange) after = IsUnderstood SpellsDefinition statement → ⊥
+StatementRead n statement before (Err Memory) after = Unit {0}
+
+-- what the statements of a text define, or the first that isn't understood
+abbrev pub StatementsRead : List ℕ → Result RulesSoFar RuleFault → Type 0
+StatementsRead text (Ok read) = (statements : List RuleStatement) × SaysRules text statements × AreSoFar statements read
+StatementsRead text (Err (fault.Syntax k)) = IsStrangeAt SpellsDefinition text k
+StatementsRead text (Err fault.Memory) = Unit {0}
+StatementsRead text (Err _) = ⊥
