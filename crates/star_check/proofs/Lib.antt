@@ -1,0 +1,20 @@
+mod Walks
+mod Repeated
+mod BodyKinds
+mod Firsts
+mod WrongKinds
+mod MissingRoots
+mod Formulas
+mod Findings
+mod Rows
+mod Closing
+mod Reached
+mod Glues
+mod Places
+mod Rounds
+mod Orders
+mod Owned
+mod OneFault
+mod AcceptedLaws
+pub mod Laws
+mod Outcome

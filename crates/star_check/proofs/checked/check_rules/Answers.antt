@@ -1,0 +1,14 @@
+use Rattle.std.proofs.Common.{List, subst, sym}
+use Rattle.std.specs.Prelude.{Option}
+use Rattle.star_model.specs.Accepted.{IsAccepted}
+use Rattle.star_model.specs.declared.rules.FormulaDef.{FormulaDef}
+use Rattle.star_model.specs.declared.faults.RuleFault.{RuleFault}
+use Rattle.star_check.specs.Checking.{IsFirstFault}
+use Rattle.star_check.specs.Owning.{FormulasAreOwn}
+use Rattle.star_check.proofs.Owned.{formulas_are_own}
+use Rattle.star_check.proofs.checked.check_rules.Goals as goal
+
+pub costs_of-requires : goal.costs_of-requires
+costs_of-requires c =
+    let accepted : IsAccepted c.args.rules = subst (λ (fault : Option RuleFault). IsFirstFault c.args.rules fault) c.in-Ok-None.field-0-is c.in-Ok-None.ensures in
+    subst (λ (ds : List FormulaDef). FormulasAreOwn ds) (sym c.as_slice.ensures) (formulas_are_own c.args.rules c.requires accepted.once)

@@ -1,0 +1,20 @@
+use Rattle.std.proofs.Common.{ap, ◌∙◌, map}
+use Rattle.star_check.specs.Sizes.{next_weight}
+use Rattle.star_check.proofs.Rounds.{first_weights, weight_round}
+use Rattle.star_check.proofs.weights.weights.Goals as goal
+
+pub loop-round-init : goal.loop-round-init
+loop-round-init c = c.in_ok-weights.ensures ∙ first_weights c.args.rules.now c.as_slice-stars.result.now
+
+pub loop-round-preserved : goal.loop-round-preserved
+loop-round-preserved c =
+    weight_round
+    c.args.rules.now
+    c.as_slice-stars.result.now
+    c.loop-round._round
+    c.loop-round.weights.items
+    c.in_ok-weights-2.weights.items
+    c.requires
+    c.as_slice-stars.ensures
+    c.loop-round.invariant
+    (c.in_ok-weights-2.ensures ∙ ap (λ ws. map (next_weight c.as_slice-stars.result.now ws) c.as_slice-stars.result.now) c.deref.ensures.value)

@@ -1,0 +1,12 @@
+-- What a checked rule file keeps.
+use Rattle.std.specs.Prelude.{◌≡◌, List}
+use Rattle.star_model.specs.Costs.{costs_of}
+use Rattle.star_model.specs.Accepted.{IsAccepted}
+use Rattle.star_model.specs.declared.costs.CostEntry.{CostEntry}
+use Rattle.star_model.specs.declared.rules.RuleFile.{RuleFile}
+use Rattle.spelling.specs.RuleLimits.{WellFormedRules}
+
+pub record IsChecked (rules : RuleFile) (costs : List CostEntry) : Type 0 where
+  pub formed : WellFormedRules rules
+  pub accepted : IsAccepted rules
+  pub formulas : costs ≡ costs_of rules

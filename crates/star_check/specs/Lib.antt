@@ -1,0 +1,14 @@
+pub mod FirstStatements
+pub mod Strange
+pub mod Repeated
+pub mod KindTests
+pub mod FileFaults
+pub mod Findings
+pub mod Offences
+pub mod Reaching
+pub mod Owning
+pub mod CycleFaults
+pub mod Sizes
+pub mod Checking
+pub mod Passing
+pub mod CheckedFiles
