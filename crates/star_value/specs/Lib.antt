@@ -1,0 +1,2 @@
+pub mod RangeNumbers
+pub mod Streams

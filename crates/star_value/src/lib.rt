@@ -1,0 +1,20 @@
+//! What the values, conditions and ranges of the rule language mean for a query, under bindings.
+#![tactic(auto)]
+
+mod columns;
+mod conditions;
+mod copies;
+mod env;
+mod home;
+mod predicates;
+mod ranges;
+mod readings;
+mod sets;
+mod streams;
+pub mod theorems;
+mod values;
+
+pub use conditions::holds;
+pub use env::Env;
+pub use ranges::{RangeIter, range};
+pub use values::value;
