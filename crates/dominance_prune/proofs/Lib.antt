@@ -1,0 +1,5 @@
+mod Filtered
+mod AntichainLaws
+mod OfferLaws
+mod RunLaws
+pub mod Laws

@@ -1,0 +1,3 @@
+mod Prefixes
+mod Antisymmetry
+pub mod Laws
