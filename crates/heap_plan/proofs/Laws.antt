@@ -1,3 +1,2 @@
 -- The laws that other crates may cite. Each is the clause of a function of the module `theorems`.
-pub use Rattle.heap_plan.proofs.Accepted.{tiny_accepted}
 pub use Rattle.heap_plan.proofs.Planned.{root_exists, root_only}

@@ -1,6 +1,9 @@
+mod StarTests
+mod FirstOther
+mod AccessStar
 mod Root
 mod Only
-mod Accepted
 mod Parts
+mod WidthSums
 mod Planned
 pub mod Laws

@@ -5,7 +5,7 @@ use Rattle.std.specs.Option.{option_map_or}
 use Rattle.star_model.specs.Sets.{places, has, set_of, members}
 use Rattle.star_model.specs.Plans.{is_chain}
 use Rattle.star_model.specs.Meaning.{plain}
-use Rattle.star_model.specs.Stars.{numbered}
+use Rattle.star_model.specs.Stars.{star_named, numbered}
 use Rattle.star_model.specs.Vectors.{same_numbers}
 use Rattle.star_model.specs.Expected.{Expected, ForGoal, Expression, leaf_of, unary_of, binary_of, root_call, may_split, goal_body, reference_body, body_of, bound, meets, root_requirement}
 use Rattle.star_model.specs.Derivations.{plan_of, is_valid, IsRoot}
@@ -18,16 +18,15 @@ use Rattle.star_model.specs.declared.plans.Props.{Props}
 use Rattle.star_model.specs.declared.query.Query.{Query}
 use Rattle.star_model.specs.declared.rules.Flavour.TheVariants as flavour
 use Rattle.star_model.specs.declared.rules.Alternative.{Alternative}
-use Rattle.star_model.specs.declared.rules.PlanExpr.TheVariants as plan
-use Rattle.star_model.specs.declared.rules.ValueExpr.TheVariants as expr
+use Rattle.star_model.specs.declared.rules.RuleFile.{RuleFile}
 use Rattle.star_model.specs.declared.values.RuleValue.{RuleValue}
 use Rattle.star_model.specs.declared.values.RuleValue.TheVariants as is
 use Rattle.star_model.specs.declared.catalogue.Catalogue.{Catalogue}
 use Rattle.star_model.specs.declared.columns.Col.{Col}
 use Rattle.star_model.specs.declared.query.QuantDef.{QuantDef}
-use Rattle.spelling.specs.Tiny.{tiny_rules}
 use Rattle.spelling.proofs.Laws.{same_are}
 use Rattle.heap_plan.specs.Small.{heap_derivation}
+use Rattle.heap_plan.specs.HeapStars.{heap_alternative, heap_access_root}
 use Rattle.heap_plan.proofs.Parts.{small_query}
 
 left : (a b : Bool) → (a && b) ≡ true → a ≡ true
@@ -71,8 +70,7 @@ arguments : List RuleValue
 arguments = plain 1 ∷ is.Preds 0 ∷ []
 
 alternative : Alternative
-alternative =
-    record { ranges = []; condition = None; body = plan.Leaf flavour.AccessHeap (expr.Variable (codes "A") 0 ∷ expr.Variable (codes "J") 1 ∷ []) }
+alternative = heap_alternative 1
 
 body : Expected
 body = Expression alternative.body arguments
@@ -86,8 +84,8 @@ heap_reference = Reference (codes "AccessRoot") 1 [] heap_leaf
 heap_goal : Deriv
 heap_goal = Goal (record { tables = 1; pushed = 0 }) None heap_reference
 
-module _ (q : Query) where
-  only_leaf : (d : Deriv) → is_valid q tiny_rules d body ≡ true → d ≡ heap_leaf
+module _ (rules : RuleFile) (number : ℕ) (named : star_named rules (codes "AccessRoot") ≡ Some (heap_access_root number)) (q : Query) where
+  only_leaf : (d : Deriv) → is_valid q rules d body ≡ true → d ≡ heap_leaf
   unfolding is_valid plan_of leaf_of unary_of binary_of alternative body heap_leaf
   only_leaf (Glue chain d) h = cc
   only_leaf (Goal g split d) h = cc
@@ -112,25 +110,25 @@ module _ (q : Query) where
   only_values [] y h = (refl, cc)
   only_values (n ∷ picks) y h = cc
 
-  only_alternative : (k : ℕ) (picks : List ℕ) (y : Expected) → body_of q tiny_rules (codes "AccessRoot") arguments k picks ≡ Some y → (k ≡ 1) × (picks ≡ []) × (y ≡ body)
-  unfolding tiny_rules alternative
+  only_alternative : (k : ℕ) (picks : List ℕ) (y : Expected) → body_of q rules (codes "AccessRoot") arguments k picks ≡ Some y → (k ≡ 1) × (picks ≡ []) × (y ≡ body)
+  unfolding alternative
   only_alternative k picks y h =
-      let a = bind _ (numbered (alternative ∷ []) k) y h in
+      let a = bind _ (numbered (alternative ∷ []) k) y (rw named at h) in
       let one = numbered_one alternative a.0 k a.1 in
       let values = only_values picks y
       (subst (λ (x : Alternative). option_and_then (λ c. if meets q c x.condition then Some (Expression x.body c) else None) (bound q x.ranges picks arguments) ≡ Some y) (sym one.1) a.2) in
       (one.0, values.0, values.1)
 
-  only_reference : (d : Deriv) → is_valid q tiny_rules d (root_call 1 0 None) ≡ true → d ≡ heap_reference
+  only_reference : (d : Deriv) → is_valid q rules d (root_call 1 0 None) ≡ true → d ≡ heap_reference
   unfolding is_valid plan_of arguments heap_reference
   only_reference (Glue chain d) h = cc
   only_reference (Goal g split d) h = cc
   only_reference (Reference star k picks d) h =
-      let a = fit (reference_body q tiny_rules star k picks (root_call 1 0 None)) (is_valid q tiny_rules d) h in
-      let c = chosen (same_numbers star (codes "AccessRoot")) (body_of q tiny_rules star arguments k picks) a.0 a.1 in
+      let a = fit (reference_body q rules star k picks (root_call 1 0 None)) (is_valid q rules d) h in
+      let c = chosen (same_numbers star (codes "AccessRoot")) (body_of q rules star arguments k picks) a.0 a.1 in
       let name = same_are star (codes "AccessRoot") c.0 in
-      let b = only_alternative k picks a.0 (subst (λ n. body_of q tiny_rules n arguments k picks ≡ Some a.0) name c.1) in
-      let tree = only_leaf d (subst (λ y. is_valid q tiny_rules d y ≡ true) b.2 a.2) in
+      let b = only_alternative k picks a.0 (subst (λ n. body_of q rules n arguments k picks ≡ Some a.0) name c.1) in
+      let tree = only_leaf d (subst (λ y. is_valid q rules d y ≡ true) b.2 a.2) in
       (λ i. Reference (name i) (b.0 i) (b.1 i) (tree i))
   only_reference (Leaf f) h = cc
   only_reference (Unary f d) h = cc
@@ -141,7 +139,7 @@ module _ (q : Query) where
   no_split None h = refl
   no_split (Some p) h = cc
 
-  only_goal : (d : Deriv) → is_valid q tiny_rules d (ForGoal 1 0) ≡ true → d ≡ heap_goal
+  only_goal : (d : Deriv) → is_valid q rules d (ForGoal 1 0) ≡ true → d ≡ heap_goal
   unfolding is_valid plan_of heap_goal
   only_goal (Glue chain d) h = cc
   only_goal (Goal g split d) h =
@@ -153,14 +151,14 @@ module _ (q : Query) where
       let whole = no_split split (right (nat_eq g.tables 1 && nat_eq g.pushed 0) _ c.0) in
       let called : root_call 1 0 split ≡ a.0 = cc in
       let call = sym called ∙ (λ i. root_call 1 0 (whole i)) in
-      let tree = only_reference d (subst (λ y. is_valid q tiny_rules d y ≡ true) call (left _ _ a.2)) in
+      let tree = only_reference d (subst (λ y. is_valid q rules d y ≡ true) call (left _ _ a.2)) in
       (λ i. Goal (record { tables = tables i; pushed = pushed i }) (whole i) (tree i))
   only_goal (Reference star k picks d) h = cc
   only_goal (Leaf f) h = cc
   only_goal (Unary f d) h = cc
   only_goal (Binary f d e) h = cc
 
-module _ (c : Catalogue) (d : QuantDef) (cols : List Col) where
+module _ (rules : RuleFile) (number : ℕ) (named : star_named rules (codes "AccessRoot") ≡ Some (heap_access_root number)) (c : Catalogue) (d : QuantDef) (cols : List Col) where
   no_chain : (chain : List GlueOp) → is_chain (root_requirement (small_query c d cols)) chain ≡ true → chain ≡ []
   unfolding is_chain
   no_chain [] h = refl
@@ -168,9 +166,9 @@ module _ (c : Catalogue) (d : QuantDef) (cols : List Col) where
   no_chain (op.Ship ∷ chain) h = cc
   no_chain (op.Store ∷ chain) h = cc
 
-  pub only : (tree : Deriv) (v : Props) → IsRoot (small_query c d cols) tiny_rules tree v → tree ≡ heap_derivation
+  pub only : (tree : Deriv) (v : Props) → IsRoot (small_query c d cols) rules tree v → tree ≡ heap_derivation
   unfolding set_of places heap_goal heap_reference heap_leaf
   only tree v root =
       let chain = no_chain root.chain root.one_of_chains in
-      let node = only_goal (small_query c d cols) root.goal_node root.valid in
+      let node = only_goal rules number named (small_query c d cols) root.goal_node root.valid in
       root.glue ∙ (λ i. Glue (chain i) (node i))

@@ -1,11 +1,14 @@
 -- What a small query is made of.
-use Rattle.std.proofs.Common.{◌≡◌, ◌<◌, ◌≤◌, ℕ, zero, suc, Bool, true, List, [], ◌∷◌, Some, None, refl, ap, sym, ◌∙◌, subst, get_or, arith}
-use Rattle.std.proofs.lemmas.Bool.{and_parts, ltb-true, leb-true}
+use Rattle.std.proofs.Common.{◌≡◌, ◌<◌, ℕ, zero, suc, Bool, true, List, [], ◌∷◌, Option, Some, None, refl, ap, sym, ◌∙◌, subst, get_or, arith}
+use Rattle.std.proofs.lemmas.Bool.{and_parts, ltb-true}
 use Rattle.std.proofs.lemmas.Option.{slice_get_read}
 use Rattle.std.specs.Prelude.{length, slice_get, nat_lt}
 use Rattle.std.specs.List.{list_all}
-use Rattle.star_model.specs.Numbers.{top}
-use Rattle.star_model.specs.Cardinality.{table_of}
+use Rattle.star_model.specs.Cardinality.{table_of, card}
+use Rattle.star_model.specs.Operators.{width_of}
+use Rattle.star_model.specs.Predicates.{used}
+use Rattle.star_model.specs.Sets.{members, has, places}
+use Rattle.std.specs.Option.{option_map_or}
 use Rattle.star_model.specs.WellFormed.{Each, none, more, WellFormedTable}
 use Rattle.star_model.specs.declared.catalogue.Catalogue.{Catalogue}
 use Rattle.star_model.specs.declared.catalogue.SiteDef.{SiteDef}
@@ -13,6 +16,8 @@ use Rattle.star_model.specs.declared.catalogue.TableDef.{TableDef}
 use Rattle.star_model.specs.declared.columns.Col.{Col}
 use Rattle.star_model.specs.declared.query.QuantDef.{QuantDef}
 use Rattle.star_model.specs.declared.query.Query.{Query}
+use Rattle.star_model.specs.declared.formula.Vars.{Vars}
+use Rattle.heap_plan.specs.HeapAccess.{heap_vars}
 use Rattle.heap_plan.specs.Small.{IsSmall}
 
 -- the query of this quantifier for these columns
@@ -85,7 +90,37 @@ module _ (q : Query) (small : IsSmall q) where
   pub site_read : (t : TableDef) (s : SiteDef) → table_of q 0 ≡ Some t → s ≡ get_or q.catalogue.sites t.site.0 s → slice_get q.catalogue.sites t.site.0 ≡ Some s
   site_read t s is s_is = slice_get_read q.catalogue.sites _ t.site.0 s refl (site_within t is) s_is
 
-  pub few_rows : (t : TableDef) → table_of q 0 ≡ Some t → t.rows ≤ top
-  few_rows t is = leb-true t.rows top (and_parts _ _ (formed_table t is).numbers).0
+  -- the values of the variables of the heap access, from what is read of the table and of its site
+  abbrev heap_parts : ℕ → ℕ → ℕ → Vars
+  heap_parts rows pages cpu = record {
+    cost1 = 0;
+    rescan1 = 0;
+    card1 = 0;
+    width1 = 0;
+    cost2 = 0;
+    rescan2 = 0;
+    card2 = 0;
+    width2 = 0;
+    card = card q 1 0;
+    width = width_of q (used q 1);
+    rows = rows;
+    pages = pages;
+    preds = 0;
+    cpu = cpu;
+    net = 0;
+  }
 
-pub ruleset read_rules = (table_within, table_read, site_within, site_read)
+  abbrev of_table : Option TableDef → Vars
+  of_table o =
+      heap_parts (option_map_or (λ t. t.rows) o 0) (option_map_or (λ t. t.pages) o 0)
+      (option_map_or (λ d. d.cpu) (slice_get q.catalogue.sites (option_map_or (λ t. t.site) o (record { 0 = 0 })).0) 0)
+
+  parts_are : heap_vars q ≡ of_table (table_of q 0)
+  unfolding width_of members has places
+  parts_are = refl
+
+  pub vars_are : (t : TableDef) (s : SiteDef) → table_of q 0 ≡ Some t → slice_get q.catalogue.sites t.site.0 ≡ Some s → heap_parts t.rows t.pages s.cpu ≡ heap_vars q
+  vars_are t s table site =
+      sym (parts_are ∙ ap of_table table ∙ ap (λ (o : Option SiteDef). heap_parts t.rows t.pages (option_map_or (λ d. d.cpu) o 0)) site)
+
+pub ruleset read_rules = (table_within, table_read, site_within, site_read, vars_are)

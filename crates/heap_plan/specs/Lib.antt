@@ -1,2 +1,4 @@
 pub mod Small
+pub mod HeapStars
+pub mod HeapTests
 pub mod HeapAccess

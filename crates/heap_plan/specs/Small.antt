@@ -1,6 +1,5 @@
--- The smallest queries: one quantifier, and neither predicate nor order nor site; and their one derivation by the smallest rules.
-use Rattle.std.specs.Prelude.{◌≡◌, ℕ, [], length, None, codes}
-use Rattle.star_model.specs.Numbers.{cut_sum, cut_product}
+-- The smallest queries: one quantifier, and neither predicate nor order nor site; and their one derivation by heap STARs.
+use Rattle.std.specs.Prelude.{◌≡◌, [], length, None, codes}
 use Rattle.star_model.specs.WellFormed.{WellFormedQuery}
 use Rattle.star_model.specs.DerivCases.{Glue, Goal, Reference}
 use Rattle.star_model.specs.declared.derivations.Deriv.TheVariants.{Leaf}
@@ -21,7 +20,3 @@ pub record IsSmall (q : Query) : Type 0 where
 abbrev pub heap_derivation : Deriv
 heap_derivation =
     Glue [] (Goal (record { tables = 1; pushed = 0 }) None (Reference (codes "AccessRoot") 1 [] (Leaf flavour.AccessHeap)))
-
--- the value of the rules' formulas of a heap: ten cost units a page, and the site's weight for each row
-abbrev pub heap_cost : ℕ → ℕ → ℕ → ℕ
-heap_cost pages cpu rows = cut_sum (cut_product 10 pages) (cut_product cpu rows)

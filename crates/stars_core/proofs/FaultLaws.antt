@@ -1,16 +1,18 @@
 -- Which fault a text has.
-use Rattle.std.proofs.Common.{subst, ◌≡◌, ◌<◌, ◌≤◌, ◌+◌, ◌++◌, ℕ, List, [], ◌∷◌, length, Option, None, Some, Ok, Err, refl, ap, sym, ◌∙◌, inl, inr, arith, zero, suc}
+use Rattle.std.proofs.Common.{subst, ◌≡◌, ◌<◌, ◌≤◌, ◌++◌, ℕ, List, [], ◌∷◌, length, Option, Some, Ok, Err, refl, ap, sym, ◌∙◌, inl, inr, arith}
 use Rattle.std.proofs.lemmas.List.{append-nil, append_assoc}
-use Rattle.std.proofs.Common.{add-one}
-use Rattle.sb_text.specs.Refusal.{fault_of, IsFault}
-use Rattle.sb_text.specs.declared.token.TextFault.TheVariants as text
-use Rattle.sb_text.specs.declared.token.Token.{Token}
-use Rattle.sb_text.specs.declared.token.TextFault.{TextFault}
+use Rattle.star_model.specs.Accepted.{IsAccepted, IsRefusedBy, First as FirstStatement}
+use Rattle.star_model.specs.declared.faults.RuleFault.{RuleFault}
+use Rattle.star_model.specs.declared.faults.RuleFault.TheVariants as rul
+use Rattle.star_model.specs.declared.rules.RuleFile.{RuleFile}
+use Rattle.star_syntax.specs.Faults as rule_files
+use Rattle.star_syntax.proofs.Laws as rule_laws
+use Rattle.star_check.specs.Checking.{Checks}
+use Rattle.star_check.proofs.Laws as check_laws
 use Rattle.star_model.specs.declared.catalogue.Catalogue.{Catalogue as CatalogueTree}
 use Rattle.star_model.specs.declared.query.Query.{Query as QueryTree}
-use Rattle.spelling.specs.Lexemes.{MaybeEnded, statements_in}
 use Rattle.spelling.specs.Queries.{SpellsQuery}
-use Rattle.spelling.proofs.Laws.{one_catalogue, one_query}
+use Rattle.spelling.proofs.Laws.{one_rule_file, one_catalogue, one_query}
 use Rattle.catalogue.specs.declared.fault.CatFault.{CatFault}
 use Rattle.catalogue.specs.declared.fault.CatFault.TheVariants as cat
 use Rattle.query_graph.specs.declared.fault.QueryFault.TheVariants as que
@@ -19,18 +21,17 @@ use Rattle.catalogue.proofs.Laws as catalogue_laws
 use Rattle.query_graph.proofs.Laws as query_laws
 use Rattle.query_graph.specs.declared.fault.QueryFault.{QueryFault}
 use Rattle.query_graph.specs.Faults as queries
+use Rattle.heap_plan.specs.HeapStars.{OfOtherStar}
 use Rattle.heap_plan.specs.Small.{IsSmall}
 use Rattle.stars_core.specs.Lines.{too_long_line, not_built_line, rules_line, catalogue_line, query_line}
-use Rattle.stars_core.specs.TinyText.{tiny_statements}
-use Rattle.stars_core.specs.Built.{Given, Over, DifferAt, IsUnbuilt, catalogue_in}
-use Rattle.stars_core.specs.Faults.{Kind, TooLong, Misread, NotBuilt, IsMisread, HasFault, First, Clear, Stops, Passes, Verdict, Accepted, Stopped, Judged, faults_of, PassAll}
+use Rattle.stars_core.specs.Built.{Given, Over, IsUnbuilt, catalogue_in}
+use Rattle.stars_core.specs.Faults.{Kind, TooLong, Misread, Rejected, NotBuilt, IsMisread, IsRejected, HasFault, First, Clear, Stops, Passes, Verdict, Accepted, Stopped, Judged, faults_of, PassAll}
 use Rattle.stars_core.specs.declared.refusal.TextKind.{TextKind}
 use Rattle.stars_core.specs.declared.refusal.TextKind.TheVariants.{Rules, Catalogue, Query}
 use Rattle.stars_core.specs.declared.refusal.Refusal.{Refusal}
 use Rattle.stars_core.specs.declared.refusal.Refusal.TheVariants as refusals
 use Rattle.stars_core.specs.declared.refusal.Refusal.TheVariants.{Usage, Unread, Refused, Memory}
-use Rattle.stars_core.specs.Judging.{Tokenised, Refuses, RulesPass, CataloguePasses, QueryPasses, StopsAlways, StopsOver}
-use Rattle.stars_core.specs.Cut.{DiffersFromTiny}
+use Rattle.stars_core.specs.Judging.{Refuses, RulesRead, RulesChecked, RulesPass, CataloguePasses, QueryPasses, StopsAlways, StopsOver}
 
 pub excludes : (has : Kind → List ℕ → Type 0) (kinds : List Kind) (line : List ℕ) → First has kinds line → Clear has kinds → ⊥
 excludes has [] line first clear = first
@@ -45,21 +46,6 @@ same_first has (kind ∷ kinds) a b one (inl p) (inr q) = absurd (q.0 a p)
 same_first has (kind ∷ kinds) a b one (inr p) (inl q) = absurd (p.0 b q)
 same_first has (kind ∷ kinds) a b one (inr p) (inr q) = same_first has kinds a b one p.1 q.1
 
--- lists differ first at one place at most, and not at all where they are the same
-one_difference : (xs ys : List MaybeEnded) (m n : ℕ) → DifferAt xs ys m → DifferAt xs ys n → m ≡ n
-one_difference [] [] m n p q = absurd p
-one_difference [] (y ∷ ys) m n p q = p ∙ sym q
-one_difference (x ∷ xs) [] m n p q = p ∙ sym q
-one_difference (x ∷ xs) (y ∷ ys) zero zero p q = refl
-one_difference (x ∷ xs) (y ∷ ys) zero (suc n) p q = absurd (p q.0)
-one_difference (x ∷ xs) (y ∷ ys) (suc m) zero p q = absurd (q p.0)
-one_difference (x ∷ xs) (y ∷ ys) (suc m) (suc n) p q = ap (λ k. suc k) (one_difference xs ys m n p.1 q.1)
-
-no_difference : (xs : List MaybeEnded) (n : ℕ) → DifferAt xs xs n → ⊥
-no_difference [] n p = p
-no_difference (x ∷ xs) zero p = p refl
-no_difference (x ∷ xs) (suc n) p = no_difference xs n p.1
-
 -- what the earlier catalogue says is one catalogue
 one_over : (earlier : List Given) (c d : CatalogueTree) → Over earlier c → Over earlier d → c ≡ d
 one_over earlier c d p q = one_catalogue (catalogue_in earlier) c d p.spells q.spells
@@ -68,22 +54,34 @@ one_line : {F : Type 0} (line : F → Option (List ℕ)) (f g : F) (a b : List �
 one_line line f g a b same p q = let e : Some a ≡ Some b = sym p ∙ (ap line same ∙ q) in cc
 
 one_misread : (earlier : List Given) (this : Given) (a b : List ℕ) → IsMisread earlier this a → IsMisread earlier this b → a ≡ b
-one_misread earlier (Rules, r) a b p q =
-    let e : Some p.0 ≡ Some q.0 = sym p.1 ∙ q.1 in
-    let same : p.0 ≡ q.0 = cc in one_line rules_line p.0 q.0 a b same p.2 q.2
+one_misread earlier (Rules, r) a b p q = one_line rules_line p.0 q.0 a b (rule_laws.one_fault r p.0 q.0 p.1 q.1) p.2 q.2
 one_misread earlier (Catalogue, c) a b p q = one_line catalogue_line p.0 q.0 a b (catalogue_laws.one_fault c p.0 q.0 p.1 q.1) p.2 q.2
 one_misread earlier (Query, d) a b p q =
     let first : queries.IsFirstFault q.0 d p.2 = subst (λ (c : CatalogueTree). queries.IsFirstFault c d p.2) (one_over earlier p.0 q.0 p.1 q.1) p.3 in
     one_line query_line p.2 q.2 a b (query_laws.one_fault q.0 d p.2 q.2 first q.3) p.4 q.4
 
+one_rejected : (this : Given) (a b : List ℕ) → IsRejected this a → IsRejected this b → a ≡ b
+one_rejected (Rules, r) a b p q =
+    let refused : IsRefusedBy q.0 p.3 = subst (λ (x : RuleFile). IsRefusedBy x p.3) (one_rule_file r p.0 q.0 p.1 q.1) p.4 in
+    one_line rules_line p.3 q.3 a b (check_laws.one_fault q.0 p.3 q.3 q.2 refused q.4) p.5 q.5
+one_rejected (Catalogue, c) a b p q = absurd p
+one_rejected (Query, d) a b p q = absurd p
+
+-- two first statements are one
+one_first : (rules : RuleFile) (case : ℕ → Type 0) (k n : ℕ) → FirstStatement rules case k → FirstStatement rules case n → k ≡ n
+one_first rules case k n p q = omega (arith, p.1 n q.0, q.1 k p.0)
+
 one_unbuilt : (earlier : List Given) (this : Given) (a b : List ℕ) → IsUnbuilt earlier this a → IsUnbuilt earlier this b → a ≡ b
-one_unbuilt earlier (Rules, r) a b p q = p.2 ∙ ap (λ n. not_built_line Rules (n + 1)) (one_difference (statements_in r) tiny_statements p.0 q.0 p.1 q.1) ∙ sym q.2
+one_unbuilt earlier (Rules, r) a b p q =
+    let first : FirstStatement q.0 (OfOtherStar q.0) p.2 = subst (λ (x : RuleFile). FirstStatement x (OfOtherStar x) p.2) (one_rule_file r p.0 q.0 p.1 q.1) p.3 in
+    p.4 ∙ ap (λ n. not_built_line Rules n) (one_first q.0 (OfOtherStar q.0) p.2 q.2 first q.3) ∙ sym q.4
 one_unbuilt earlier (Catalogue, c) a b p q = absurd p
 one_unbuilt earlier (Query, d) a b p q = p.5 ∙ sym q.5
 
 one_fault : (earlier : List Given) (this : Given) (kind : Kind) (a b : List ℕ) → HasFault earlier this kind a → HasFault earlier this kind b → a ≡ b
 one_fault earlier this TooLong a b p q = p.1 ∙ sym q.1
 one_fault earlier this Misread a b p q = one_misread earlier this a b p q
+one_fault earlier this Rejected a b p q = one_rejected this a b p q
 one_fault earlier this NotBuilt a b p q = one_unbuilt earlier this a b p q
 
 pub one_stop : (earlier : List Given) (this : Given) (a b : List ℕ) → Stops earlier this a → Stops earlier this b → a ≡ b
@@ -108,25 +106,34 @@ long_stops earlier this line long is = inl (long, is)
 pub misread_stops : (earlier : List Given) (this : Given) (line : List ℕ) → length this.1 ≤ 1048576 → IsMisread earlier this line → Stops earlier this line
 misread_stops earlier this line size misread = inr (not_long earlier this size, inl misread)
 
+pub rejected_stops : (earlier : List Given) (this : Given) (line : List ℕ) → length this.1 ≤ 1048576
+    → ((other : List ℕ) → IsMisread earlier this other → ⊥) → IsRejected this line → Stops earlier this line
+rejected_stops earlier this line size read rejected = inr (not_long earlier this size, inr (read, inl rejected))
+
 pub unbuilt_stops : (earlier : List Given) (this : Given) (line : List ℕ) → length this.1 ≤ 1048576
-    → ((other : List ℕ) → IsMisread earlier this other → ⊥) → IsUnbuilt earlier this line → Stops earlier this line
-unbuilt_stops earlier this line size read unbuilt = inr (not_long earlier this size, inr (read, inl unbuilt))
+    → ((other : List ℕ) → IsMisread earlier this other → ⊥) → ((other : List ℕ) → IsRejected this other → ⊥) → IsUnbuilt earlier this line → Stops earlier this line
+unbuilt_stops earlier this line size read fine unbuilt = inr (not_long earlier this size, inr (read, inr (fine, inl unbuilt)))
 
 passes : (earlier : List Given) (this : Given) → length this.1 ≤ 1048576 → ((other : List ℕ) → IsMisread earlier this other → ⊥)
-    → ((other : List ℕ) → IsUnbuilt earlier this other → ⊥) → Passes earlier this
-passes earlier this size read built = (not_long earlier this size, (read, (built, tt)))
+    → ((other : List ℕ) → IsRejected this other → ⊥) → ((other : List ℕ) → IsUnbuilt earlier this other → ⊥) → Passes earlier this
+passes earlier this size read fine built = (not_long earlier this size, (read, (fine, (built, tt))))
 
 -- ---- texts that are accepted
 
-not_misread_rules : (r : List ℕ) → fault_of r ≡ None → (earlier : List Given) (other : List ℕ) → IsMisread earlier (Rules, r) other → ⊥
-not_misread_rules r accepted earlier other p = let e : Some p.0 ≡ None = sym p.1 ∙ accepted in cc
+module _ (r : List ℕ) (rules : RuleFile) (reads : rule_files.ReadsRules r (Ok rules)) where
+  not_misread_rules : (earlier : List Given) (other : List ℕ) → IsMisread earlier (Rules, r) other → ⊥
+  not_misread_rules earlier other p = reads.clear p.0 p.1.has
 
-pub rules_pass : (r : List ℕ) → RulesPass r → (earlier : List Given) → Passes earlier (Rules, r)
-rules_pass r pass earlier = passes earlier (Rules, r) pass.size (not_misread_rules r pass.accepted earlier)
-    (λ other p. no_difference tiny_statements p.0 (subst (λ (l : List MaybeEnded). DifferAt l tiny_statements p.0) pass.built p.1))
+  not_rejected : IsAccepted rules → (other : List ℕ) → IsRejected (Rules, r) other → ⊥
+  not_rejected accepted other p = check_laws.accepted_or_refused rules p.3 accepted (subst (λ (x : RuleFile). IsRefusedBy x p.3) (one_rule_file r p.0 rules p.1 reads.spells) p.4)
+
+pub rules_pass : (r : List ℕ) (rules : RuleFile) → RulesPass r rules → (earlier : List Given) → Passes earlier (Rules, r)
+rules_pass r rules pass earlier =
+    passes earlier (Rules, r) pass.size (not_misread_rules r rules pass.read earlier) (not_rejected r rules pass.read pass.accepted)
+    (λ other p. pass.built p.2 (subst (λ (x : RuleFile). OfOtherStar x p.2) (one_rule_file r p.0 rules p.1 pass.read.spells) p.3.0))
 
 pub catalogue_passes : (c : List ℕ) (catalogue : CatalogueTree) → CataloguePasses c catalogue → (earlier : List Given) → Passes earlier (Catalogue, c)
-catalogue_passes c catalogue pass earlier = passes earlier (Catalogue, c) pass.size (λ other p. pass.read.clear p.0 p.1.has) (λ other p. p)
+catalogue_passes c catalogue pass earlier = passes earlier (Catalogue, c) pass.size (λ other p. pass.read.clear p.0 p.1.has) (λ other p. p) (λ other p. p)
 
 not_misread_query : (catalogue : CatalogueTree) (q : List ℕ) (query : QueryTree) → queries.ReadsQuery catalogue q (Ok query)
     → (earlier : List Given) → Over earlier catalogue → (other : List ℕ) → IsMisread earlier (Query, q) other → ⊥
@@ -135,7 +142,7 @@ not_misread_query catalogue q query read earlier over other p =
 
 pub query_passes : (catalogue : CatalogueTree) (q : List ℕ) (query : QueryTree) → QueryPasses catalogue q query → (earlier : List Given) → Over earlier catalogue → Passes earlier (Query, q)
 query_passes catalogue q query pass earlier over =
-    passes earlier (Query, q) pass.size (not_misread_query catalogue q query pass.read earlier over)
+    passes earlier (Query, q) pass.size (not_misread_query catalogue q query pass.read earlier over) (λ other p. p)
     (λ other p.
     let spells : SpellsQuery catalogue q p.2 = subst (λ (c : CatalogueTree). SpellsQuery c q p.2) (one_over earlier p.0 catalogue p.1 over) p.3 in
     p.4 (subst (λ (x : QueryTree). IsSmall x) (one_query catalogue q query p.2 pass.read.spells spells) pass.built))
@@ -172,27 +179,76 @@ long_refuses kind bytes P (Unread l) long p = long
 
 -- ---- rule files
 
-pub tokenised_pass : (r : List ℕ) (tokens : List Token) → Tokenised r tokens → DiffersFromTiny r None → RulesPass r
-tokenised_pass r tokens has same = record { size = has.size; accepted = has.spans.accepted; built = same }
-
-pub unbuilt_rules_refuse : (r : List ℕ) (tokens : List Token) → Tokenised r tokens → (statement : ℕ) → DiffersFromTiny r (Some statement)
-    → (refusal : Refusal) → Refuses Rules (λ line. line ≡ not_built_line Rules statement) refusal → Refuses Rules (StopsAlways Rules r) refusal
-unbuilt_rules_refuse r tokens has zero differ refusal told = absurd differ
-unbuilt_rules_refuse r tokens has (suc place) differ refusal told =
-    refuses Rules (StopsAlways Rules r) (not_built_line Rules (suc place)) refusal told
-    (λ earlier. unbuilt_stops earlier (Rules, r) _ has.size (not_misread_rules r has.spans.accepted earlier)
-    (place, differ, ap (λ n. not_built_line Rules n) (sym (add-one place))))
-
-pub misread_rules_refuse : (r : List ℕ) → length r ≤ 1048576 → (fault : TextFault) → IsFault r fault
-    → (refusal : Refusal) → Refuses Rules (λ line. rules_line fault ≡ Some line) refusal → Refuses Rules (StopsAlways Rules r) refusal
-misread_rules_refuse r size fault is refusal told =
-    refuses_map Rules (λ line. rules_line fault ≡ Some line) (StopsAlways Rules r) refusal
-    (λ line told. λ earlier. misread_stops earlier (Rules, r) line size (fault, is_fault fault line told is, told)) told
+pub reading_refuses : (r : List ℕ) (fault : RuleFault) → rule_files.ReadsRules r (Err fault)
+    → (refusal : Refusal) → Refuses Rules (λ line. rules_line fault ≡ Some line) refusal → RulesRead r (Err refusal)
+reading_refuses r fault reads refusal told =
+    refuses_map Rules (λ line. rules_line fault ≡ Some line) (λ line. (f : RuleFault) × rule_files.IsFirstFault r f × (rules_line f ≡ Some line)) refusal
+    (λ line told. (fault, is_first fault line told reads, told)) told
   where
-    is_fault : (fault : TextFault) (line : List ℕ) → rules_line fault ≡ Some line → IsFault r fault → fault_of r ≡ Some fault
-    is_fault (text.Lexical offset) line told is = is
-    is_fault (text.TooDeep statement) line told is = is
-    is_fault text.Memory line told is = absurd cc
+    is_first : (fault : RuleFault) (line : List ℕ) → rules_line fault ≡ Some line → rule_files.ReadsRules r (Err fault) → rule_files.IsFirstFault r fault
+    is_first (rul.Lexical offset) line told reads = reads
+    is_first (rul.TooDeep k) line told reads = reads
+    is_first (rul.Syntax k) line told reads = reads
+    is_first (rul.Limit k what) line told reads = reads
+    is_first (rul.Unknown k) line told reads = reads
+    is_first (rul.Twice k) line told reads = reads
+    is_first (rul.Arity k) line told reads = reads
+    is_first (rul.Kind k) line told reads = reads
+    is_first (rul.Cycle k) line told reads = reads
+    is_first (rul.GlueInAccess k) line told reads = reads
+    is_first (rul.NoRoot name) line told reads = reads
+    is_first (rul.NoFormula f) line told reads = reads
+    is_first (rul.NotMonotone f w n) line told reads = reads
+    is_first (rul.TooTall k h) line told reads = reads
+    is_first (rul.TooWide k w) line told reads = reads
+    is_first rul.Memory line told reads = absurd cc
+
+pub check_refuses : (rules : RuleFile) (fault : RuleFault) → Checks rules (Err fault)
+    → (refusal : Refusal) → Refuses Rules (λ line. rules_line fault ≡ Some line) refusal → RulesChecked rules (Err refusal)
+check_refuses rules fault checks refusal told =
+    refuses_map Rules (λ line. rules_line fault ≡ Some line) (λ line. (f : RuleFault) × IsRefusedBy rules f × (rules_line f ≡ Some line)) refusal
+    (λ line told. (fault, is_refused fault line told checks, told)) told
+  where
+    is_refused : (fault : RuleFault) (line : List ℕ) → rules_line fault ≡ Some line → Checks rules (Err fault) → IsRefusedBy rules fault
+    is_refused (rul.Lexical offset) line told checks = checks
+    is_refused (rul.TooDeep k) line told checks = checks
+    is_refused (rul.Syntax k) line told checks = checks
+    is_refused (rul.Limit k what) line told checks = checks
+    is_refused (rul.Unknown k) line told checks = checks
+    is_refused (rul.Twice k) line told checks = checks
+    is_refused (rul.Arity k) line told checks = checks
+    is_refused (rul.Kind k) line told checks = checks
+    is_refused (rul.Cycle k) line told checks = checks
+    is_refused (rul.GlueInAccess k) line told checks = checks
+    is_refused (rul.NoRoot name) line told checks = checks
+    is_refused (rul.NoFormula f) line told checks = checks
+    is_refused (rul.NotMonotone f w n) line told checks = checks
+    is_refused (rul.TooTall k h) line told checks = checks
+    is_refused (rul.TooWide k w) line told checks = checks
+    is_refused rul.Memory line told checks = absurd cc
+
+pub misread_rules_refuse : (r : List ℕ) → length r ≤ 1048576 → (refusal : Refusal) → RulesRead r (Err refusal) → Refuses Rules (StopsAlways Rules r) refusal
+misread_rules_refuse r size refusal told =
+    refuses_map Rules (λ line. (f : RuleFault) × rule_files.IsFirstFault r f × (rules_line f ≡ Some line)) (StopsAlways Rules r) refusal
+    (λ line told. λ earlier. misread_stops earlier (Rules, r) line size told) told
+
+module _ (r : List ℕ) (size : length r ≤ 1048576) (rules : RuleFile) (reads : rule_files.ReadsRules r (Ok rules)) where
+  pub rejected_rules_refuse : (refusal : Refusal) → RulesChecked rules (Err refusal) → Refuses Rules (StopsAlways Rules r) refusal
+  rejected_rules_refuse refusal told =
+      refuses_map Rules (λ line. (f : RuleFault) × IsRefusedBy rules f × (rules_line f ≡ Some line)) (StopsAlways Rules r) refusal
+      (λ line told. λ earlier. rejected_stops earlier (Rules, r) line size (not_misread_rules r rules reads earlier) (rules, reads.spells, reads.formed, told.0, told.1, told.2)) told
+
+  pub unbuilt_rules_refuse : IsAccepted rules → (statement : ℕ) → FirstStatement rules (OfOtherStar rules) statement
+      → (refusal : Refusal) → Refuses Rules (λ line. line ≡ not_built_line Rules statement) refusal → Refuses Rules (StopsAlways Rules r) refusal
+  unbuilt_rules_refuse accepted statement first refusal told =
+      refuses Rules (StopsAlways Rules r) (not_built_line Rules statement) refusal told
+      (λ earlier. unbuilt_stops earlier (Rules, r) _ size (not_misread_rules r rules reads earlier) (not_rejected r rules reads accepted)
+      (rules, reads.spells, statement, first, refl))
+
+-- rules that were read and accepted
+pub checked_reads : (r : List ℕ) (rules checked : RuleFile) → rule_files.ReadsRules r (Ok rules) → RulesChecked rules (Ok checked) → rule_files.ReadsRules r (Ok checked) × IsAccepted checked
+checked_reads r rules checked reads checks =
+    (subst (λ (x : RuleFile). rule_files.IsRead r x) (sym checks.0) reads, subst (λ (x : RuleFile). IsAccepted x) (sym checks.0) checks.1)
 
 -- ---- catalogues
 
@@ -233,5 +289,5 @@ pub unbuilt_query_refuses : (catalogue : CatalogueTree) (q : List ℕ) (query : 
     → (refusal : Refusal) → Refuses Query (λ line. line ≡ not_built_line Query 1) refusal → Refuses Query (StopsOver catalogue q) refusal
 unbuilt_query_refuses catalogue q query size read not_small refusal told =
     refuses Query (StopsOver catalogue q) (not_built_line Query 1) refusal told
-    (λ earlier over. unbuilt_stops earlier (Query, q) _ size (not_misread_query catalogue q query read earlier over)
+    (λ earlier over. unbuilt_stops earlier (Query, q) _ size (not_misread_query catalogue q query read earlier over) (λ other p. p)
     (catalogue, over, query, read.spells, not_small, refl))

@@ -3,10 +3,10 @@ pub mod FaultLaws
 pub mod Along
 pub mod Causes
 pub mod Derived
-pub mod TinyLaws
-pub mod Cutting
-pub mod BuiltLaws
 pub mod Says
 pub mod ThreeTexts
 mod ThreeFiles
+mod LimitsKept
+mod TinyAccepted
+mod TinyRules
 mod Witness

@@ -4,6 +4,7 @@ use Rattle.std.specs.declared.alloc.Global.{Global}
 use Rattle.sb_outside.specs.Shelf.{ShelfState, Goes}
 use Rattle.star_model.specs.declared.catalogue.Catalogue.{Catalogue as CatalogueTree}
 use Rattle.star_model.specs.declared.query.Query.{Query as QueryTree}
+use Rattle.star_model.specs.declared.rules.RuleFile.{RuleFile}
 use Rattle.stars_core.specs.declared.refusal.TextKind.TheVariants.{Rules, Catalogue, Query}
 use Rattle.stars_core.specs.declared.refusal.Refusal.{Refusal}
 use Rattle.stars_core.specs.CommandLine.{three_requests}
@@ -29,9 +30,9 @@ module _ (before : ShelfState) (rules catalogue query : List ℕ) where
       stopped before before now [] ((Catalogue, catalogue) ∷ (Query, query) ∷ []) (Rules, rules) [] r refusal (starts before) goes read
       (refuses_map Rules (StopsAlways Rules r.items) (λ line. Stops [] (Rules, r.items) line) refusal (λ line stops. stops []) refuses)
 
-  pub after_rules : (now : ShelfState) (r : Vec ℕ Global) → Goes before now → Fetched before now (Rules, rules) (Ok r) → RulesPass r.items
+  pub after_rules : (now : ShelfState) (r : Vec ℕ Global) (repertoire : RuleFile) → Goes before now → Fetched before now (Rules, rules) (Ok r) → RulesPass r.items repertoire
       → CameAlong before now ((Rules, rules) ∷ []) ((Rules, r.items) ∷ [])
-  after_rules now r goes read pass = goes_along before before now [] [] (Rules, rules) [] r (starts before) goes read (rules_pass r.items pass [])
+  after_rules now r repertoire goes read pass = goes_along before before now [] [] (Rules, rules) [] r (starts before) goes read (rules_pass r.items repertoire pass [])
 
   -- ---- the catalogue
 

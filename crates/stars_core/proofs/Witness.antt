@@ -1,5 +1,5 @@
 -- Some files of which the clauses speak, and what a run that is done says.
-use Rattle.std.proofs.Common.{◌≡◌, inl, inr, ℕ, List, [], ◌∷◌, ◌≤◌, false, if◌then◌else◌, Option, None, Some, refl, sym, subst, arith, codes, zero, suc}
+use Rattle.std.proofs.Common.{◌≡◌, inl, inr, ℕ, List, [], ◌∷◌, false, if◌then◌else◌, Option, None, Some, refl, subst, arith, codes, zero, suc}
 use Rattle.std.specs.Prelude.{IsTrue}
 use Rattle.std.specs.Str.{bytes_eq, IsAscii}
 use Rattle.std.specs.List.{concat}
@@ -34,11 +34,10 @@ use Rattle.stars_core.specs.declared.command.Command.TheVariants.{Plan}
 use Rattle.stars_core.specs.declared.status.Found.TheVariants.{Planned}
 use Rattle.stars_core.specs.declared.status.Status.TheVariants.{Done}
 use Rattle.stars_core.specs.CommandLine.{CommandLine, command_of}
-use Rattle.stars_core.specs.TinyText.{tiny_text}
-use Rattle.stars_core.specs.Judging.{RulesPass, CataloguePasses, QueryPasses}
+use Rattle.stars_core.specs.Judging.{CataloguePasses, QueryPasses}
 use Rattle.stars_core.specs.Shelves.{Puts}
 use Rattle.stars_core.specs.Answers.{Answered, AllPut, DoneSays, SomeTold}
-use Rattle.stars_core.proofs.TinyLaws.{tiny_accepted, tiny_says, tiny_length}
+use Rattle.stars_core.proofs.TinyRules.{tiny_text, tiny_passes}
 use Rattle.stars_core.proofs.ThreeTexts.{three_pass}
 use Rattle.stars_core.proofs.Says.{says}
 
@@ -75,9 +74,6 @@ catalogue_text = codes "site s cpu 1 net 1;table t at s rows 1 pages 1 file 'f'(
 
 abbrev query_text : List ℕ
 query_text = codes "select t.a from t;"
-
-rules_pass : RulesPass tiny_text
-rules_pass = record { size = subst (λ (n : ℕ). n ≤ 1048576) (sym tiny_length) (omega arith); accepted = tiny_accepted; built = tiny_says }
 
 -- ---- the catalogue
 
@@ -304,7 +300,7 @@ some_told =
         told = refl;
         listed = refl;
         held = (refl, refl, (refl, refl, (refl, refl, tt)));
-        accepted = three_pass tiny_text catalogue_text query_text catalogue query rules_pass catalogue_passes query_passes;
-        says = says tiny_text catalogue_text query_text catalogue query rules_pass catalogue_passes query_passes;
+        accepted = three_pass tiny_text catalogue_text query_text tiny_rules catalogue query tiny_passes catalogue_passes query_passes;
+        says = says tiny_text catalogue_text query_text tiny_rules catalogue query tiny_passes catalogue_passes query_passes;
       },
     )

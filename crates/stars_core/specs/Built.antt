@@ -1,17 +1,19 @@
--- The texts that have a planner: the tiny rules, any catalogue, and a query of one quantifier with neither predicate nor order nor site.
-use Rattle.std.specs.Prelude.{◌≡◌, ◌+◌, ℕ, List, [], ◌∷◌}
-use Prim.Native.Nat.{zero, suc}
+-- The texts that have a planner: rules whose STARs read heaps and do nothing else, any catalogue, and a query of one quantifier with
+-- neither predicate nor order nor site.
+use Rattle.std.specs.Prelude.{◌≡◌, ℕ, List, [], ◌∷◌}
+use Rattle.star_model.specs.Accepted.{First}
 use Rattle.star_model.specs.WellFormed.{WellFormedCatalogue}
 use Rattle.star_model.specs.declared.catalogue.Catalogue.{Catalogue as CatalogueTree}
 use Rattle.star_model.specs.declared.query.Query.{Query as QueryTree}
-use Rattle.spelling.specs.Lexemes.{MaybeEnded, statements_in}
+use Rattle.star_model.specs.declared.rules.RuleFile.{RuleFile}
+use Rattle.spelling.specs.Rules.{SpellsRules}
 use Rattle.spelling.specs.Catalogues.{SpellsCatalogue}
 use Rattle.spelling.specs.Queries.{SpellsQuery}
+use Rattle.heap_plan.specs.HeapStars.{OfOtherStar}
 use Rattle.heap_plan.specs.Small.{IsSmall}
 use Rattle.stars_core.specs.declared.refusal.TextKind.{TextKind}
 use Rattle.stars_core.specs.declared.refusal.TextKind.TheVariants.{Rules, Catalogue, Query}
 use Rattle.stars_core.specs.Lines.{not_built_line}
-use Rattle.stars_core.specs.TinyText.{tiny_statements}
 
 -- a text: what it is to be, and its bytes
 abbrev pub Given : Type 0
@@ -29,18 +31,9 @@ pub record Over (earlier : List Given) (catalogue : CatalogueTree) : Type 0 wher
   pub spells : SpellsCatalogue (catalogue_in earlier) catalogue
   pub formed : WellFormedCatalogue catalogue
 
--- the first place, from 0, at which the lists differ or one of them ends
-abbrev pub DifferAt : List MaybeEnded → List MaybeEnded → ℕ → Type 0
-DifferAt [] [] n = ⊥
-DifferAt [] (y ∷ ys) n = n ≡ 0
-DifferAt (x ∷ xs) [] n = n ≡ 0
-DifferAt (x ∷ xs) (y ∷ ys) zero = x ≡ y → ⊥
-DifferAt (x ∷ xs) (y ∷ ys) (suc n) = (x ≡ y) × DifferAt xs ys n
-
--- The text is understood and has no planner, and the line tells its first statement that has none. It is one more than the last
--- where more are wanted.
+-- The text is understood and has no planner, and the line tells its first statement that has none.
 abbrev pub IsUnbuilt : List Given → Given → List ℕ → Type 0
-IsUnbuilt earlier (Rules, r) line = (place : ℕ) × DifferAt (statements_in r) tiny_statements place × (line ≡ not_built_line Rules (place + 1))
+IsUnbuilt earlier (Rules, r) line = (rules : RuleFile) × SpellsRules r rules × (k : ℕ) × First rules (OfOtherStar rules) k × (line ≡ not_built_line Rules k)
 IsUnbuilt earlier (Catalogue, c) line = ⊥
 IsUnbuilt earlier (Query, q) line =
     (catalogue : CatalogueTree) × Over earlier catalogue × (query : QueryTree) × SpellsQuery catalogue q query × (IsSmall query → ⊥) × (line ≡ not_built_line Query 1)

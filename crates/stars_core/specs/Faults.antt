@@ -1,9 +1,13 @@
 -- The faults of a text, judged with the texts before it at hand.
 use Rattle.std.specs.Prelude.{◌≡◌, ◌⊎◌, ◌<◌, ℕ, List, [], ◌∷◌, ◌++◌, length, Some}
 use Prim.Native.Nat.{zero, suc}
-use Rattle.sb_text.specs.Refusal.{fault_of}
-use Rattle.sb_text.specs.declared.token.TextFault.{TextFault}
+use Rattle.star_model.specs.Accepted.{IsRefusedBy}
 use Rattle.star_model.specs.declared.catalogue.Catalogue.{Catalogue as CatalogueTree}
+use Rattle.star_model.specs.declared.faults.RuleFault.{RuleFault}
+use Rattle.star_model.specs.declared.rules.RuleFile.{RuleFile}
+use Rattle.spelling.specs.Rules.{SpellsRules}
+use Rattle.spelling.specs.RuleLimits.{WellFormedRules}
+use Rattle.star_syntax.specs.Faults as rule_files
 use Rattle.catalogue.specs.declared.fault.CatFault.{CatFault}
 use Rattle.catalogue.specs.Faults as catalogues
 use Rattle.query_graph.specs.declared.fault.QueryFault.{QueryFault}
@@ -16,23 +20,32 @@ use Rattle.stars_core.specs.Built.{Given, Over, IsUnbuilt}
 pub data Kind : Type 0 where
   TooLong : Kind
   Misread : Kind
+  Rejected : Kind
   NotBuilt : Kind
 
 -- the kinds of fault that a text may have, in the order in which they are judged
 abbrev pub faults_of : TextKind → List Kind
-faults_of kind = TooLong ∷ Misread ∷ NotBuilt ∷ []
+faults_of kind = TooLong ∷ Misread ∷ Rejected ∷ NotBuilt ∷ []
 
 -- the first of the faults that the text's reader finds, and the line that tells it
 abbrev pub IsMisread : List Given → Given → List ℕ → Type 0
-IsMisread earlier (Rules, r) line = (fault : TextFault) × (fault_of r ≡ Some fault) × (rules_line fault ≡ Some line)
+IsMisread earlier (Rules, r) line = (fault : RuleFault) × rule_files.IsFirstFault r fault × (rules_line fault ≡ Some line)
 IsMisread earlier (Catalogue, c) line = (fault : CatFault) × catalogues.IsFirstFault c fault × (catalogue_line fault ≡ Some line)
 IsMisread earlier (Query, q) line =
     (catalogue : CatalogueTree) × Over earlier catalogue × (fault : QueryFault) × queries.IsFirstFault catalogue q fault × (query_line fault ≡ Some line)
+
+-- the rules that the text spells keep their limits and are not accepted, and the line tells why
+abbrev pub IsRejected : Given → List ℕ → Type 0
+IsRejected (Rules, r) line =
+    (rules : RuleFile) × SpellsRules r rules × WellFormedRules rules × (fault : RuleFault) × IsRefusedBy rules fault × (rules_line fault ≡ Some line)
+IsRejected (Catalogue, c) line = ⊥
+IsRejected (Query, q) line = ⊥
 
 -- the text has a fault of this kind, and the line tells it
 abbrev pub HasFault : List Given → Given → Kind → List ℕ → Type 0
 HasFault earlier this TooLong line = (1048576 < length this.1) × (line ≡ too_long_line this.0)
 HasFault earlier this Misread line = IsMisread earlier this line
+HasFault earlier this Rejected line = IsRejected this line
 HasFault earlier this NotBuilt line = IsUnbuilt earlier this line
 
 -- the first kind of fault that it has

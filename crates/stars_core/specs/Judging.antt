@@ -1,19 +1,20 @@
 -- What the judgement of one text answers.
-use Rattle.std.specs.Prelude.{◌≡◌, ◌≤◌, ◌<◌, ℕ, List, length, None, Result, Ok, Err, string_bytes}
-use Rattle.sb_text.specs.Refusal.{AreTokens, fault_of}
-use Rattle.sb_text.specs.declared.token.Token.{Token}
+use Rattle.std.specs.Prelude.{◌≡◌, ◌≤◌, ◌<◌, ℕ, List, length, Some, Result, Ok, Err, string_bytes}
+use Rattle.star_model.specs.Accepted.{IsAccepted, IsRefusedBy}
 use Rattle.star_model.specs.declared.catalogue.Catalogue.{Catalogue as CatalogueTree}
 use Rattle.star_model.specs.declared.query.Query.{Query as QueryTree}
-use Rattle.spelling.specs.Lexemes.{statements_in}
+use Rattle.star_model.specs.declared.faults.RuleFault.{RuleFault}
+use Rattle.star_model.specs.declared.rules.RuleFile.{RuleFile}
+use Rattle.star_syntax.specs.Faults as rule_files
 use Rattle.catalogue.specs.Faults as catalogues
 use Rattle.query_graph.specs.Faults as queries
+use Rattle.heap_plan.specs.HeapStars.{HasHeapStars}
 use Rattle.heap_plan.specs.Small.{IsSmall}
 use Rattle.stars_core.specs.declared.refusal.TextKind.{TextKind}
 use Rattle.stars_core.specs.declared.refusal.TextKind.TheVariants.{Rules, Catalogue, Query}
 use Rattle.stars_core.specs.declared.refusal.Refusal.{Refusal}
 use Rattle.stars_core.specs.declared.refusal.Refusal.TheVariants.{Usage, Unread, Refused, Memory}
-use Rattle.stars_core.specs.Lines.{too_long_line}
-use Rattle.stars_core.specs.TinyText.{tiny_statements}
+use Rattle.stars_core.specs.Lines.{too_long_line, rules_line}
 use Rattle.stars_core.specs.Built.{Given, Over}
 use Rattle.stars_core.specs.Faults.{Stops}
 
@@ -29,15 +30,12 @@ abbrev pub SizeJudged : {A : Type 0} → TextKind → List ℕ → Result A Refu
 SizeJudged kind bytes (Ok done) = length bytes ≤ 1048576
 SizeJudged kind bytes (Err refusal) = Refuses kind (λ line. (1048576 < length bytes) × (line ≡ too_long_line kind)) refusal
 
--- the text is within the limit, and its tokens are these
-pub record Tokenised (bytes : List ℕ) (tokens : List Token) : Type 0 where
-  pub size : length bytes ≤ 1048576
-  pub spans : AreTokens bytes tokens
-
-pub record RulesPass (r : List ℕ) : Type 0 where
+-- the text says these rules, which are accepted and have a planner
+pub record RulesPass (r : List ℕ) (rules : RuleFile) : Type 0 where
   pub size : length r ≤ 1048576
-  pub accepted : fault_of r ≡ None
-  pub built : statements_in r ≡ tiny_statements
+  pub read : rule_files.ReadsRules r (Ok rules)
+  pub accepted : IsAccepted rules
+  pub built : HasHeapStars rules
 
 -- the text says this catalogue
 pub record CataloguePasses (c : List ℕ) (catalogue : CatalogueTree) : Type 0 where
@@ -58,9 +56,19 @@ StopsAlways kind bytes line = (earlier : List Given) → Stops earlier (kind, by
 abbrev pub StopsOver : CatalogueTree → List ℕ → List ℕ → Type 0
 StopsOver catalogue q line = (earlier : List Given) → Over earlier catalogue → Stops earlier (Query, q) line
 
+-- what the reading of a rule file answers
+abbrev pub RulesRead : List ℕ → Result RuleFile Refusal → Type 0
+RulesRead r (Ok rules) = rule_files.ReadsRules r (Ok rules)
+RulesRead r (Err refusal) = Refuses Rules (λ line. (fault : RuleFault) × rule_files.IsFirstFault r fault × (rules_line fault ≡ Some line)) refusal
+
+-- what the check of rules answers
+abbrev pub RulesChecked : RuleFile → Result RuleFile Refusal → Type 0
+RulesChecked rules (Ok checked) = (checked ≡ rules) × IsAccepted rules
+RulesChecked rules (Err refusal) = Refuses Rules (λ line. (fault : RuleFault) × IsRefusedBy rules fault × (rules_line fault ≡ Some line)) refusal
+
 -- what the judgement of each text answers
-abbrev pub JudgedRules : {A : Type 0} → List ℕ → Result A Refusal → Type 0
-JudgedRules r (Ok done) = RulesPass r
+abbrev pub JudgedRules : List ℕ → Result RuleFile Refusal → Type 0
+JudgedRules r (Ok rules) = RulesPass r rules
 JudgedRules r (Err refusal) = Refuses Rules (StopsAlways Rules r) refusal
 
 abbrev pub JudgedCatalogue : List ℕ → Result CatalogueTree Refusal → Type 0

@@ -1,8 +1,6 @@
 pub mod CommandLine
 pub mod Lines
-pub mod TinyText
 pub mod Built
-pub mod Cut
 pub mod Faults
 pub mod Judging
 pub mod Plan

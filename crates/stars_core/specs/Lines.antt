@@ -1,10 +1,15 @@
 -- The lines that say why a command put nothing out, and the status of each.
 use Rattle.std.specs.Prelude.{ℕ, List, [], ◌∷◌, ◌++◌, Option, Some, None, codes, string_bytes}
 use Rattle.std.specs.Fmt.{decimal}
-use Rattle.sb_text.specs.declared.token.TextFault.{TextFault}
-use Rattle.sb_text.specs.declared.token.TextFault.TheVariants as text
 use Rattle.star_model.specs.declared.faults.LimitKind.{LimitKind}
 use Rattle.star_model.specs.declared.faults.LimitKind.TheVariants as limit
+use Rattle.star_model.specs.declared.faults.Root.{Root}
+use Rattle.star_model.specs.declared.faults.Root.TheVariants as root
+use Rattle.star_model.specs.declared.faults.RuleFault.{RuleFault}
+use Rattle.star_model.specs.declared.faults.RuleFault.TheVariants as rules
+use Rattle.star_model.specs.declared.rules.Flavour.{Flavour}
+use Rattle.star_model.specs.declared.rules.Which.{Which}
+use Rattle.spelling.specs.Flavours.{flavour_word, which_word}
 use Rattle.catalogue.specs.declared.fault.CatFault.{CatFault}
 use Rattle.catalogue.specs.declared.fault.CatFault.TheVariants as catalogues
 use Rattle.query_graph.specs.declared.fault.QueryFault.{QueryFault}
@@ -73,11 +78,59 @@ limit_line kind statement what = prefix kind ++ codes "limit " ++ limit_word wha
 abbrev pub clash_line : ℕ → List ℕ
 clash_line predicate = prefix Query ++ codes "predicate " ++ decimal predicate ++ codes " compares two types" ++ 10 ∷ []
 
+-- ---- rule files alone
+
+abbrev pub arity_line : ℕ → List ℕ
+arity_line statement = prefix Rules ++ codes "wrong number of arguments in statement " ++ decimal statement ++ 10 ∷ []
+
+abbrev pub kind_line : ℕ → List ℕ
+kind_line statement = prefix Rules ++ codes "wrong kind in statement " ++ decimal statement ++ 10 ∷ []
+
+abbrev pub cycle_line : ℕ → List ℕ
+cycle_line statement = prefix Rules ++ codes "cycle through statement " ++ decimal statement ++ 10 ∷ []
+
+abbrev pub glue_line : ℕ → List ℕ
+glue_line statement = prefix Rules ++ codes "Glue below AccessRoot in statement " ++ decimal statement ++ 10 ∷ []
+
+abbrev pub root_word : Root → List ℕ
+root_word root.AccessRoot = codes "AccessRoot"
+root_word root.JoinRoot = codes "JoinRoot"
+
+abbrev pub no_root_line : Root → List ℕ
+no_root_line name = prefix Rules ++ codes "no star " ++ root_word name ++ 10 ∷ []
+
+abbrev pub no_formula_line : Flavour → List ℕ
+no_formula_line flavour = prefix Rules ++ codes "no formula for " ++ flavour_word flavour ++ 10 ∷ []
+
+-- by the number of the formula's node in preorder, from 1
+abbrev pub not_monotone_line : Flavour → Which → ℕ → List ℕ
+not_monotone_line flavour which node =
+    prefix Rules ++ which_word which ++ codes " of " ++ flavour_word flavour ++ codes " is not monotone at node " ++ decimal node ++ 10 ∷ []
+
+abbrev pub too_tall_line : ℕ → ℕ → List ℕ
+too_tall_line statement height = statement_line Rules statement (codes "has height " ++ decimal height)
+
+abbrev pub too_wide_line : ℕ → ℕ → List ℕ
+too_wide_line statement weight = statement_line Rules statement (codes "has weight " ++ decimal weight)
+
 -- The line of each fault; want of memory is none of a text.
-abbrev pub rules_line : TextFault → Option (List ℕ)
-rules_line (text.Lexical offset) = Some (lexical_line Rules offset)
-rules_line (text.TooDeep statement) = Some (too_deep_line Rules statement)
-rules_line text.Memory = None
+abbrev pub rules_line : RuleFault → Option (List ℕ)
+rules_line (rules.Lexical offset) = Some (lexical_line Rules offset)
+rules_line (rules.TooDeep statement) = Some (too_deep_line Rules statement)
+rules_line (rules.Syntax statement) = Some (syntax_line Rules statement)
+rules_line (rules.Limit statement what) = Some (limit_line Rules statement what)
+rules_line (rules.Unknown statement) = Some (unknown_line Rules statement)
+rules_line (rules.Twice statement) = Some (twice_line Rules statement)
+rules_line (rules.Arity statement) = Some (arity_line statement)
+rules_line (rules.Kind statement) = Some (kind_line statement)
+rules_line (rules.Cycle statement) = Some (cycle_line statement)
+rules_line (rules.GlueInAccess statement) = Some (glue_line statement)
+rules_line (rules.NoRoot name) = Some (no_root_line name)
+rules_line (rules.NoFormula flavour) = Some (no_formula_line flavour)
+rules_line (rules.NotMonotone flavour which node) = Some (not_monotone_line flavour which node)
+rules_line (rules.TooTall statement height) = Some (too_tall_line statement height)
+rules_line (rules.TooWide statement weight) = Some (too_wide_line statement weight)
+rules_line rules.Memory = None
 
 abbrev pub catalogue_line : CatFault → Option (List ℕ)
 catalogue_line (catalogues.Lexical offset) = Some (lexical_line Catalogue offset)

@@ -23,12 +23,12 @@ fn plan<S: Shelf>(
     ensures ran { PlanRan (S.state shelf.old) (S.state shelf.new) (three_requests rules.now catalogue.now query.now) result }
 {
     let rule_text = fetch(alloc, shelf, TextKind::Rules, rules)?;
-    judge_rules(alloc, rule_text.as_slice())?;
+    let repertoire = judge_rules(alloc, rule_text.as_slice())?;
     let catalogue_text = fetch(alloc, shelf, TextKind::Catalogue, catalogue)?;
     let tree = judge_catalogue(alloc, catalogue_text.as_slice())?;
     let query_text = fetch(alloc, shelf, TextKind::Query, query)?;
     let selection = judge_query(alloc, &tree, query_text.as_slice())?;
-    let answer = plan_query(alloc, &selection)?;
+    let answer = plan_query(alloc, &repertoire, &selection)?;
     Ok(answer)
 }
 

@@ -1,19 +1,23 @@
 // The judgement of one text.
-ghost use Rattle.std.specs.Prelude.{◌≡◌, Some};
+ghost use Rattle.std.specs.Prelude.{◌≡◌, ◌≤◌, length, Some};
 ghost use Rattle.star_model.specs.WellFormed.{WellFormedCatalogue};
+ghost use Rattle.spelling.specs.RuleLimits.{WellFormedRules};
 ghost use Rattle.stars_core.specs.Lines.{not_built_line, rules_line, catalogue_line, query_line};
-ghost use Rattle.stars_core.specs.Judging.{Tokenised, Refuses, SizeJudged, JudgedRules, JudgedCatalogue, JudgedQuery};
+ghost use Rattle.stars_core.specs.Judging.{Refuses, SizeJudged, RulesRead, RulesChecked, JudgedRules, JudgedCatalogue, JudgedQuery};
 
-use crate::built::{cut, unbuilt_rules};
-use crate::lines::{catalogue_line, not_built_line, query_line, rules_line, too_long_line};
+use crate::lines::{catalogue_line, not_built_line, query_line, too_long_line};
 use crate::read::LIMIT;
+use crate::rule_lines::rules_line;
 use crate::{Refusal, TextKind};
 use catalogue::{CatFault, read_catalogue};
-use heap_plan::is_small;
+use heap_plan::{first_other_star, is_small};
 use query_graph::{QueryFault, read_query};
-use sb_text::{TextFault, Token, tokens};
+use star_check::{CheckedRules, check_rules};
 use star_model::catalogue::Catalogue;
+use star_model::faults::RuleFault;
 use star_model::query::Query;
+use star_model::rules::RuleFile;
+use star_syntax::read_rules;
 use std::alloc::Global;
 
 // Refuses a text that is longer than texts may be.
@@ -36,7 +40,7 @@ fn unbuilt(alloc: Global, kind: TextKind, statement: u32) -> Refusal
     }
 }
 
-fn misread_rules(alloc: Global, fault: TextFault) -> Refusal
+fn refused_rules(alloc: Global, fault: RuleFault) -> Refusal
     ensures { Refuses TextKind.Rules (λ line. rules_line fault ≡ Some line) result }
 {
     match rules_line(alloc, fault) {
@@ -63,27 +67,38 @@ fn misread_query(alloc: Global, fault: QueryFault) -> Refusal
     }
 }
 
-// Judges a rule file whose tokens are known.
-fn judge_rule_tokens(alloc: Global, bytes: &[u8], tokens: &[Token]) -> Result<(), Refusal>
-    requires { Tokenised bytes.now tokens.now }
-    ensures { JudgedRules bytes.now result }
+// Reads a rule file that isn't too long.
+fn read(alloc: Global, bytes: &[u8]) -> Result<RuleFile, Refusal>
+    requires { length bytes.now ≤ 1048576 }
+    ensures { RulesRead bytes.now result }
 {
-    let statements = cut(alloc, bytes, tokens)?;
-    let stranger = unbuilt_rules(alloc, bytes, statements.as_slice())?;
-    match stranger {
-        None => Ok(()),
-        Some(statement) => Err(unbuilt(alloc, TextKind::Rules, statement)),
+    match read_rules(alloc, bytes) {
+        Ok(rules) => Ok(rules),
+        Err(fault) => Err(refused_rules(alloc, fault)),
     }
 }
 
-/// Judges a rule file. One that passes has the statements of the tiny rules.
-pub fn judge_rules(alloc: Global, bytes: &[u8]) -> Result<(), Refusal>
+// Checks the rules that a text spells.
+fn check(alloc: Global, rules: RuleFile) -> Result<CheckedRules, Refusal>
+    requires { WellFormedRules rules }
+    ensures { RulesChecked rules result }
+{
+    match check_rules(alloc, rules) {
+        Ok(rules) => Ok(rules),
+        Err(fault) => Err(refused_rules(alloc, fault)),
+    }
+}
+
+/// The rules that a text says, or its first fault. Rules that pass are accepted and have a planner.
+pub fn judge_rules(alloc: Global, bytes: &[u8]) -> Result<CheckedRules, Refusal>
     ensures { JudgedRules bytes.now result }
 {
     check_size(alloc, TextKind::Rules, bytes)?;
-    match tokens(alloc, bytes) {
-        Ok(tokens) => judge_rule_tokens(alloc, bytes, tokens.as_slice()),
-        Err(fault) => Err(misread_rules(alloc, fault)),
+    let rules = read(alloc, bytes)?;
+    let rules = check(alloc, rules)?;
+    match first_other_star(rules.rules()) {
+        None => Ok(rules),
+        Some(statement) => Err(unbuilt(alloc, TextKind::Rules, statement)),
     }
 }
 

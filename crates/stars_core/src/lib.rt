@@ -2,7 +2,6 @@
 #![tactic(auto)]
 
 mod answer;
-mod built;
 mod command;
 mod compose;
 mod judging;
@@ -11,6 +10,8 @@ mod lines;
 mod plan;
 mod read;
 mod refusal;
+mod rule_lines;
+mod rule_words;
 mod status;
 mod texts;
 mod top;

@@ -1,11 +1,10 @@
 // The lines that tell the faults of a text.
 ghost use Rattle.std.specs.Prelude.{◌≡◌, ◌++◌, IfOk, Some, codes, string_bytes};
-ghost use Rattle.stars_core.specs.Lines.{prefix, too_long_line, lexical_line, statement_line, not_built_line, unknown_line, twice_line, limit_word, limit_line, clash_line, rules_line, catalogue_line, query_line};
+ghost use Rattle.stars_core.specs.Lines.{prefix, too_long_line, lexical_line, statement_line, not_built_line, unknown_line, twice_line, limit_word, limit_line, clash_line, catalogue_line, query_line};
 
 use crate::TextKind;
 use catalogue::CatFault;
 use query_graph::QueryFault;
-use sb_text::TextFault;
 use star_model::faults::LimitKind;
 use std::alloc::{AllocError, Global};
 
@@ -26,7 +25,7 @@ pub fn too_long_line(alloc: Global, kind: TextKind) -> Result<String, AllocError
     format!(in alloc; "{prefix}longer than 1048576 bytes\n")
 }
 
-fn lexical_line(alloc: Global, kind: TextKind, offset: u32) -> Result<String, AllocError>
+pub fn lexical_line(alloc: Global, kind: TextKind, offset: u32) -> Result<String, AllocError>
     ensures { IfOk result (λ line. string_bytes line ≡ lexical_line kind offset) }
 {
     let prefix = prefix(kind);
@@ -34,7 +33,7 @@ fn lexical_line(alloc: Global, kind: TextKind, offset: u32) -> Result<String, Al
 }
 
 // What is said of a statement, by its number from 1.
-fn statement_line(
+pub fn statement_line(
     alloc: Global,
     kind: TextKind,
     statement: u32,
@@ -55,14 +54,14 @@ pub fn not_built_line(alloc: Global, kind: TextKind, statement: u32) -> Result<S
     statement_line(alloc, kind, statement, "is not built yet")
 }
 
-fn unknown_line(alloc: Global, kind: TextKind, statement: u32) -> Result<String, AllocError>
+pub fn unknown_line(alloc: Global, kind: TextKind, statement: u32) -> Result<String, AllocError>
     ensures { IfOk result (λ line. string_bytes line ≡ unknown_line kind statement) }
 {
     let prefix = prefix(kind);
     format!(in alloc; "{prefix}unknown name in statement {statement}\n")
 }
 
-fn twice_line(alloc: Global, kind: TextKind, statement: u32) -> Result<String, AllocError>
+pub fn twice_line(alloc: Global, kind: TextKind, statement: u32) -> Result<String, AllocError>
     ensures { IfOk result (λ line. string_bytes line ≡ twice_line kind statement) }
 {
     let prefix = prefix(kind);
@@ -94,7 +93,7 @@ fn limit_word(what: LimitKind) -> &'static str
     }
 }
 
-fn limit_line(
+pub fn limit_line(
     alloc: Global,
     kind: TextKind,
     statement: u32,
@@ -115,19 +114,6 @@ fn clash_line(alloc: Global, predicate: u32) -> Result<String, AllocError>
     line.push_str(" compares two types")?;
     line.push_str("\n")?;
     Ok(line)
-}
-
-/// The line of a fault of a rule file. Want of memory is told as itself.
-pub fn rules_line(alloc: Global, fault: TextFault) -> Result<String, AllocError>
-    ensures { IfOk result (λ line. rules_line fault ≡ Some (string_bytes line)) }
-{
-    match fault {
-        TextFault::Lexical(offset) => lexical_line(alloc, TextKind::Rules, offset),
-        TextFault::TooDeep(statement) => {
-            statement_line(alloc, TextKind::Rules, statement, "is too deep")
-        }
-        TextFault::Memory => Err(AllocError),
-    }
 }
 
 /// The line of a fault of a catalogue. Want of memory is told as itself.

@@ -1,13 +1,14 @@
 // The text of a least plan.
 ghost use Rattle.std.specs.Prelude.{◌≡◌, ◌++◌, IfOk, string_bytes};
+ghost use Rattle.heap_plan.specs.HeapStars.{HasHeapStars};
 ghost use Rattle.heap_plan.specs.Small.{IsSmall};
-ghost use Rattle.spelling.specs.Tiny.{tiny_rules};
 ghost use Rattle.spelling.specs.Derivations.{canonical};
 ghost use Rattle.stars_core.specs.Plan.{PlanText, numbers_line_of};
 
 use crate::{Answer, Found};
 use derivation_print::print_derivation;
 use heap_plan::{LeastPlan, least_plan};
+use star_check::CheckedRules;
 use star_model::query::Query;
 use std::alloc::{AllocError, Global};
 
@@ -32,12 +33,13 @@ fn plan_text(alloc: Global, plan: &LeastPlan) -> Result<Vec<u8>, AllocError>
     Ok(text)
 }
 
-/// How planning of a query by the tiny rules ends, and the text that tells it.
-pub fn plan_query(alloc: Global, query: &Query) -> Result<Answer, AllocError>
-    requires { IsSmall query.now }
-    ensures { IfOk result (λ answer. PlanText tiny_rules query.now answer.found answer.text.items) }
+/// How planning of a query by rules ends, and the text that tells it.
+pub fn plan_query(alloc: Global, rules: &CheckedRules, query: &Query) -> Result<Answer, AllocError>
+    requires rules { HasHeapStars rules.now }
+    requires query { IsSmall query.now }
+    ensures { IfOk result (λ answer. PlanText rules.now query.now answer.found answer.text.items) }
 {
-    let plan = least_plan(alloc, query)?;
+    let plan = least_plan(alloc, rules, query)?;
     let text = plan_text(alloc, &plan)?;
     Ok(Answer {
         found: Found::Planned,

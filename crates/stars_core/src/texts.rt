@@ -16,9 +16,9 @@ pub fn plan_texts(
 ) -> Result<Answer, Refusal>
     ensures { PlansOf rules.now catalogue.now query.now result }
 {
-    judge_rules(alloc, rules)?;
+    let rules = judge_rules(alloc, rules)?;
     let tree = judge_catalogue(alloc, catalogue)?;
     let query = judge_query(alloc, &tree, query)?;
-    let answer = plan_query(alloc, &query)?;
+    let answer = plan_query(alloc, &rules, &query)?;
     Ok(answer)
 }

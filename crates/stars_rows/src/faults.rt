@@ -85,7 +85,7 @@ fn reads_files_in_order(rt: HostRuntime) -> Result<(), Fail> {
         (
             "plan c none none",
             "RulesRefused, calls 1\nout: \nerr: rules",
-            "statement 1 is not built yet",
+            strange,
         ),
     ];
     for (line, end, fault) in rows {

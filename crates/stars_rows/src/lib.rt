@@ -8,8 +8,6 @@ mod accepted;
 #[cfg(test)]
 mod faults;
 #[cfg(test)]
-mod lexemes;
-#[cfg(test)]
 mod refused;
 #[cfg(test)]
 mod runs;

@@ -14,9 +14,6 @@ star AccessRoot(A stream, J preds) = give ACCESS_HEAP(A, J);
 star JoinRoot(A stream, B stream, J preds) = give ACCESS_HEAP(A, J);
 ";
 
-/// Its first statement, without the semicolon.
-pub const FIRST_RULE: &str = "cost ACCESS_HEAP = 10 * pages + cpu * rows";
-
 /// A catalogue of one table of one column, with no rows.
 pub const TABLE: &str =
     "site hq cpu 1 net 1; table t at hq rows 0 pages 0 file 't.csv' (a int width 8 distinct 0);";
@@ -78,13 +75,6 @@ star Keyed(A stream, B stream, J preds, P preds, M preds) =
   | give JOIN_NL(Glue(A, J), PROBE(Glue(B[path keys(M, tables(B))], none), keys(M, tables(B)),
       union(P, meet(J, crossing(tables(B))))), none);
 ";
-
-/// A number in this many brackets, as a statement.
-pub fn nested(alloc: Global, depth: usize) -> Result<String, AllocError> {
-    let opened = "(".repeat(alloc, depth)?;
-    let closed = ")".repeat(alloc, depth)?;
-    format!(in alloc; "{opened}1{closed};")
-}
 
 /// A text with a comment behind it that brings it to a length in bytes.
 pub fn lengthened(alloc: Global, text: &str, len: usize) -> Result<String, AllocError> {

@@ -2,12 +2,14 @@
 ghost use Rattle.star_model.specs.WellFormed.{WellFormedCatalogue, WellFormedQuery};
 
 use crate::expanded::expanded;
+use crate::queries::STAFF;
+use crate::repertoire::with_parts;
 use query_graph::{card, read_query};
 use star_model::catalogue::Catalogue;
 use star_model::num::Num;
 use star_model::query::Query;
 use star_model::sets::{PredSet, QuantSet};
-use stars_core::{judge_catalogue, judge_query};
+use stars_core::{judge_catalogue, judge_query, plan_texts};
 use std::alloc::{AllocError, Global};
 
 /// The greatest length of a text in bytes.
@@ -65,13 +67,13 @@ fn told_query(alloc: Global, catalogue: &Catalogue, text: &[u8]) -> Result<Strin
     }
 }
 
-// The text and the answer of a row.
-fn parts_of(row: &str) -> (&str, &str) {
+/// The text and the answer of a row.
+pub fn parts_of(row: &str) -> (&str, &str) {
     row.split_once(" => ").unwrap_or((row, "no answer"))
 }
 
-// Adds a row that has another answer, with that answer.
-fn push_difference(
+/// Adds a row that has another answer, with that answer.
+pub fn push_difference(
     differing: &mut String,
     row: &str,
     told: &str,
@@ -117,4 +119,28 @@ pub fn differing_queries(alloc: Global, catalogue: &str, rows: &str) -> Result<S
         Ok(catalogue) => differing_over(alloc, &catalogue, rows),
         Err(refusal) => String::from_str(alloc, refusal.line()),
     }
+}
+
+// The line with the numbers of the plan for all employees, or the line of the fault.
+fn told_rules(alloc: Global, rules: &[u8]) -> Result<String, AllocError> {
+    match plan_texts(alloc, rules, STAFF.as_bytes(), b"select e.id from emp e;") {
+        Ok(answer) => {
+            let text = String::from_utf8_lossy(alloc, answer.text.as_slice())?;
+            String::from_str(alloc, text.as_str().lines().next().unwrap_or("no line"))
+        }
+        Err(refusal) => String::from_str(alloc, refusal.line().trim_end()),
+    }
+}
+
+/// The rows of a table of rule files that have another answer.
+pub fn differing_rules(alloc: Global, rows: &str) -> Result<String, AllocError> {
+    let mut differing = String::new(alloc);
+    for row in rows.lines() {
+        let (text, wanted) = parts_of(row);
+        let text = with_parts(alloc, text)?;
+        let text = expanded(alloc, text.as_str())?;
+        let told = told_rules(alloc, text.as_bytes())?;
+        push_difference(&mut differing, row, told.as_str(), wanted)?;
+    }
+    Ok(differing)
 }

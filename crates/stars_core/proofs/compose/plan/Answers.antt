@@ -1,5 +1,4 @@
 use Rattle.std.proofs.lemmas.Result.{err_from_is_err_and}
-use Rattle.spelling.specs.Tiny.{tiny_rules}
 use Rattle.stars_core.proofs.Says.{says}
 use Rattle.stars_core.proofs.ThreeFiles.{rules_unfetched, rules_refused, after_rules, catalogue_unfetched, catalogue_refused, after_catalogue, query_unfetched, query_refused, after_query}
 use Rattle.stars_core.proofs.compose.plan.Goals as goal
@@ -9,30 +8,30 @@ returns-in_err-rule_text-clause-ran g c =
     let p = err_from_is_err_and c.from_residual.result c.from_residual.ensures.1 in
     rw (p.1, p.2) (rules_unfetched (g.S.Shelf.state c.args.shelf.now) c.args.rules.now c.args.catalogue.now c.args.query.now (g.S.Shelf.state c.fetch.new.shelf) _ c.in_err-rule_text.ensures.goes c.in_err-rule_text.ensures.fetched)
 
-pub returns-in_err-judge_rules-clause-ran : goal.returns-in_err-judge_rules-clause-ran
-returns-in_err-judge_rules-clause-ran g c =
-    let p = err_from_is_err_and c.from_residual-in_err-judge_rules.result c.from_residual-in_err-judge_rules.ensures.1 in
-    rw (p.1, p.2) (rules_refused (g.S.Shelf.state c.args.shelf.now) c.args.rules.now c.args.catalogue.now c.args.query.now (g.S.Shelf.state c.fetch.new.shelf) c.in_ok-rule_text.rule_text _ c.in_ok-rule_text.ensures.goes c.in_ok-rule_text.ensures.fetched (rw c.as_slice.ensures.value at c.in_err-judge_rules.ensures))
+pub returns-in_err-repertoire-clause-ran : goal.returns-in_err-repertoire-clause-ran
+returns-in_err-repertoire-clause-ran g c =
+    let p = err_from_is_err_and c.from_residual-in_err-repertoire.result c.from_residual-in_err-repertoire.ensures.1 in
+    rw (p.1, p.2) (rules_refused (g.S.Shelf.state c.args.shelf.now) c.args.rules.now c.args.catalogue.now c.args.query.now (g.S.Shelf.state c.fetch.new.shelf) c.in_ok-rule_text.rule_text _ c.in_ok-rule_text.ensures.goes c.in_ok-rule_text.ensures.fetched (rw c.as_slice.ensures.value at c.in_err-repertoire.ensures))
 
 pub returns-in_err-catalogue_text-clause-ran : goal.returns-in_err-catalogue_text-clause-ran
 returns-in_err-catalogue_text-clause-ran g c =
-    let rules_ok = rw c.as_slice.ensures.value at c.in_ok-judge_rules.ensures in
-    let first = after_rules (g.S.Shelf.state c.args.shelf.now) c.args.rules.now c.args.catalogue.now c.args.query.now (g.S.Shelf.state c.fetch.new.shelf) c.in_ok-rule_text.rule_text c.in_ok-rule_text.ensures.goes c.in_ok-rule_text.ensures.fetched rules_ok in
+    let rules_ok = rw c.as_slice.ensures.value at c.in_ok-repertoire.ensures in
+    let first = after_rules (g.S.Shelf.state c.args.shelf.now) c.args.rules.now c.args.catalogue.now c.args.query.now (g.S.Shelf.state c.fetch.new.shelf) c.in_ok-rule_text.rule_text c.in_ok-repertoire.repertoire c.in_ok-rule_text.ensures.goes c.in_ok-rule_text.ensures.fetched rules_ok in
     let p = err_from_is_err_and c.from_residual-in_err-catalogue_text.result c.from_residual-in_err-catalogue_text.ensures.1 in
     rw (p.1, p.2) (catalogue_unfetched (g.S.Shelf.state c.args.shelf.now) c.args.rules.now c.args.catalogue.now c.args.query.now (g.S.Shelf.state c.fetch.new.shelf) c.in_ok-rule_text.rule_text.items first (g.S.Shelf.state c.fetch-2.new.shelf) _ c.in_err-catalogue_text.ensures.goes c.in_err-catalogue_text.ensures.fetched)
 
 pub returns-in_err-tree-clause-ran : goal.returns-in_err-tree-clause-ran
 returns-in_err-tree-clause-ran g c =
-    let rules_ok = rw c.as_slice.ensures.value at c.in_ok-judge_rules.ensures in
-    let first = after_rules (g.S.Shelf.state c.args.shelf.now) c.args.rules.now c.args.catalogue.now c.args.query.now (g.S.Shelf.state c.fetch.new.shelf) c.in_ok-rule_text.rule_text c.in_ok-rule_text.ensures.goes c.in_ok-rule_text.ensures.fetched rules_ok in
+    let rules_ok = rw c.as_slice.ensures.value at c.in_ok-repertoire.ensures in
+    let first = after_rules (g.S.Shelf.state c.args.shelf.now) c.args.rules.now c.args.catalogue.now c.args.query.now (g.S.Shelf.state c.fetch.new.shelf) c.in_ok-rule_text.rule_text c.in_ok-repertoire.repertoire c.in_ok-rule_text.ensures.goes c.in_ok-rule_text.ensures.fetched rules_ok in
     let p = err_from_is_err_and c.from_residual-in_err-tree.result c.from_residual-in_err-tree.ensures.1 in
     rw (p.1, p.2) (catalogue_refused (g.S.Shelf.state c.args.shelf.now) c.args.rules.now c.args.catalogue.now c.args.query.now (g.S.Shelf.state c.fetch.new.shelf) c.in_ok-rule_text.rule_text.items first (g.S.Shelf.state c.fetch-2.new.shelf) c.in_ok-catalogue_text.catalogue_text _
     c.in_ok-catalogue_text.ensures.goes c.in_ok-catalogue_text.ensures.fetched (rw c.as_slice-2.ensures.value at c.in_err-tree.ensures))
 
 pub returns-in_err-query_text-clause-ran : goal.returns-in_err-query_text-clause-ran
 returns-in_err-query_text-clause-ran g c =
-    let rules_ok = rw c.as_slice.ensures.value at c.in_ok-judge_rules.ensures in
-    let first = after_rules (g.S.Shelf.state c.args.shelf.now) c.args.rules.now c.args.catalogue.now c.args.query.now (g.S.Shelf.state c.fetch.new.shelf) c.in_ok-rule_text.rule_text c.in_ok-rule_text.ensures.goes c.in_ok-rule_text.ensures.fetched rules_ok in
+    let rules_ok = rw c.as_slice.ensures.value at c.in_ok-repertoire.ensures in
+    let first = after_rules (g.S.Shelf.state c.args.shelf.now) c.args.rules.now c.args.catalogue.now c.args.query.now (g.S.Shelf.state c.fetch.new.shelf) c.in_ok-rule_text.rule_text c.in_ok-repertoire.repertoire c.in_ok-rule_text.ensures.goes c.in_ok-rule_text.ensures.fetched rules_ok in
     let catalogue_ok = rw c.as_slice-2.ensures.value at c.in_ok-tree.ensures in
     let second = after_catalogue (g.S.Shelf.state c.args.shelf.now) c.args.rules.now c.args.catalogue.now c.args.query.now (g.S.Shelf.state c.fetch.new.shelf) c.in_ok-rule_text.rule_text.items first (g.S.Shelf.state c.fetch-2.new.shelf) c.in_ok-catalogue_text.catalogue_text c.in_ok-tree.tree
     c.in_ok-catalogue_text.ensures.goes c.in_ok-catalogue_text.ensures.fetched catalogue_ok in
@@ -41,8 +40,8 @@ returns-in_err-query_text-clause-ran g c =
 
 pub returns-in_err-selection-clause-ran : goal.returns-in_err-selection-clause-ran
 returns-in_err-selection-clause-ran g c =
-    let rules_ok = rw c.as_slice.ensures.value at c.in_ok-judge_rules.ensures in
-    let first = after_rules (g.S.Shelf.state c.args.shelf.now) c.args.rules.now c.args.catalogue.now c.args.query.now (g.S.Shelf.state c.fetch.new.shelf) c.in_ok-rule_text.rule_text c.in_ok-rule_text.ensures.goes c.in_ok-rule_text.ensures.fetched rules_ok in
+    let rules_ok = rw c.as_slice.ensures.value at c.in_ok-repertoire.ensures in
+    let first = after_rules (g.S.Shelf.state c.args.shelf.now) c.args.rules.now c.args.catalogue.now c.args.query.now (g.S.Shelf.state c.fetch.new.shelf) c.in_ok-rule_text.rule_text c.in_ok-repertoire.repertoire c.in_ok-rule_text.ensures.goes c.in_ok-rule_text.ensures.fetched rules_ok in
     let catalogue_ok = rw c.as_slice-2.ensures.value at c.in_ok-tree.ensures in
     let second = after_catalogue (g.S.Shelf.state c.args.shelf.now) c.args.rules.now c.args.catalogue.now c.args.query.now (g.S.Shelf.state c.fetch.new.shelf) c.in_ok-rule_text.rule_text.items first (g.S.Shelf.state c.fetch-2.new.shelf) c.in_ok-catalogue_text.catalogue_text c.in_ok-tree.tree
     c.in_ok-catalogue_text.ensures.goes c.in_ok-catalogue_text.ensures.fetched catalogue_ok in
@@ -53,13 +52,16 @@ returns-in_err-selection-clause-ran g c =
 pub judge_query-requires : goal.judge_query-requires
 judge_query-requires g c = let catalogue_ok = rw c.as_slice-2.ensures.value at c.in_ok-tree.ensures in catalogue_ok.read.formed
 
-pub plan_query-requires : goal.plan_query-requires
-plan_query-requires g c = let query_ok = rw c.as_slice-3.ensures.value at c.in_ok-selection.ensures in query_ok.built
+pub plan_query-requires-clause-rules : goal.plan_query-requires-clause-rules
+plan_query-requires-clause-rules g c = let rules_ok = rw c.as_slice.ensures.value at c.in_ok-repertoire.ensures in rules_ok.built
+
+pub plan_query-requires-clause-query : goal.plan_query-requires-clause-query
+plan_query-requires-clause-query g c = let query_ok = rw c.as_slice-3.ensures.value at c.in_ok-selection.ensures in query_ok.built
 
 pub returns-clause-ran : goal.returns-clause-ran
 returns-clause-ran g c =
-    let rules_ok = rw c.as_slice.ensures.value at c.in_ok-judge_rules.ensures in
-    let first = after_rules (g.S.Shelf.state c.args.shelf.now) c.args.rules.now c.args.catalogue.now c.args.query.now (g.S.Shelf.state c.fetch.new.shelf) c.in_ok-rule_text.rule_text c.in_ok-rule_text.ensures.goes c.in_ok-rule_text.ensures.fetched rules_ok in
+    let rules_ok = rw c.as_slice.ensures.value at c.in_ok-repertoire.ensures in
+    let first = after_rules (g.S.Shelf.state c.args.shelf.now) c.args.rules.now c.args.catalogue.now c.args.query.now (g.S.Shelf.state c.fetch.new.shelf) c.in_ok-rule_text.rule_text c.in_ok-repertoire.repertoire c.in_ok-rule_text.ensures.goes c.in_ok-rule_text.ensures.fetched rules_ok in
     let catalogue_ok = rw c.as_slice-2.ensures.value at c.in_ok-tree.ensures in
     let second = after_catalogue (g.S.Shelf.state c.args.shelf.now) c.args.rules.now c.args.catalogue.now c.args.query.now (g.S.Shelf.state c.fetch.new.shelf) c.in_ok-rule_text.rule_text.items first (g.S.Shelf.state c.fetch-2.new.shelf) c.in_ok-catalogue_text.catalogue_text c.in_ok-tree.tree
     c.in_ok-catalogue_text.ensures.goes c.in_ok-catalogue_text.ensures.fetched catalogue_ok in
@@ -73,9 +75,9 @@ returns-clause-ran g c =
         c.in_ok-query_text.query_text.items,
         record { held = third.held; accepted = third.accepted },
         record {
-          rules = tiny_rules;
+          rules = c.in_ok-repertoire.repertoire;
           query = c.in_ok-selection.selection;
-          says = says c.in_ok-rule_text.rule_text.items c.in_ok-catalogue_text.catalogue_text.items c.in_ok-query_text.query_text.items c.in_ok-tree.tree c.in_ok-selection.selection rules_ok catalogue_ok query_ok;
+          says = says c.in_ok-rule_text.rule_text.items c.in_ok-catalogue_text.catalogue_text.items c.in_ok-query_text.query_text.items c.in_ok-repertoire.repertoire c.in_ok-tree.tree c.in_ok-selection.selection rules_ok catalogue_ok query_ok;
           answer = c.in_ok-answer.ensures;
         },
       ),
