@@ -5,12 +5,15 @@ pub use Rattle.star_model.proofs.NumberLaws.{sum-cut, difference-cut, product-cu
 pub use Rattle.star_model.proofs.SetLaws.{has-zero, has-union, has-meet, has-minus, has-single, has-set_of, has-above, same_set, union-lt, meet-lt, minus-lt, single-lt, set_of-lt, within-members}
 pub use Rattle.star_model.proofs.ColumnLaws.{has_column-empty, has_column-with, has_column-union, has_column-where, within-columns, same_columns, empty_columns, union-where, with_column-where}
 pub use Rattle.star_model.proofs.SplitLaws.{split_once, split_only}
+pub use Rattle.star_model.proofs.SizeLaws.{part_is_smaller, left_is_smaller, right_is_smaller}
 pub use Rattle.star_model.proofs.MonotoneLaws.{monotone}
 pub use Rattle.star_model.proofs.OffendLaws.{passes_where}
 pub use Rattle.star_model.proofs.BetterLaws.{better_reflexive, better_transitive, better_antisymmetric}
 pub use Rattle.star_model.proofs.ExchangeLaws.{operators_exchange}
 pub use Rattle.star_model.proofs.ChainLaws.{vector_card, chains_exchange, better_satisfies}
 pub use Rattle.star_model.proofs.KindLaws.{means}
+pub use Rattle.star_model.proofs.StreamLaws.{streams_pass, stream_passes}
+pub use Rattle.star_model.proofs.MemberLaws.{member_has_kind, members_have_kind, member_passes, members_pass, few_members_of}
 pub use Rattle.star_model.proofs.CostLaws.{formula_of-push}
 use Rattle.star_model.proofs.InvalidLaws.{first}
 use Rattle.star_model.proofs.JudgeLaws.{judged, valid_from, valid_to, vector_from, vector_to, root_from, root_to}

@@ -2,7 +2,9 @@
 
 ghost use Rattle.std.specs.Prelude.{◌≡◌, ◌<◌, ◌≤◌, [], ◌∷◌, ◌++◌, length, IsOk, ◌↔◌, OnOk, OnErr, IfErr, replicate};
 ghost use Rattle.star_model.specs.Columns.{has_column, with_column, union_columns, is_columns_within};
+ghost use Rattle.std.specs.List.{list_any};
 ghost use Rattle.star_model.specs.Sets.{is_within};
+ghost use Rattle.star_model.specs.Vectors.{begins, same_column};
 
 use arrayvec::ArrayVec;
 use std::marker::Model;
@@ -74,12 +76,38 @@ impl ColList {
         }
     }
 
+    /// Whether it has the column.
+    pub fn has(&self, col: Col) -> bool
+        ensures { result ≡ list_any (same_column col) self.now }
+    {
+        contains(self.as_slice(), col)
+    }
+
+    /// Whether the other list is a prefix of it.
+    pub fn begins_with(&self, prefix: &ColList) -> bool
+        ensures { result ≡ begins prefix.now self.now }
+    {
+        starts_with(self.as_slice(), prefix.as_slice())
+    }
+
     /// An equal list. It takes no memory.
     pub fn copied(&self) -> ColList
         ensures { result ≡ self.now }
     {
         copy_of(self.as_slice())
     }
+}
+
+fn contains(cols: &[Col], col: Col) -> bool
+    ensures { result ≡ list_any (same_column col) cols.now }
+{
+    cols.contains(&col)
+}
+
+fn starts_with(cols: &[Col], prefix: &[Col]) -> bool
+    ensures { result ≡ begins prefix.now cols.now }
+{
+    cols.starts_with(prefix)
 }
 
 fn copy_of(cols: &[Col]) -> ColList

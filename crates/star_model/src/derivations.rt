@@ -61,6 +61,25 @@ impl ForAllValues {
             Err(item)
         }
     }
+
+    /// An equal list. It takes no memory.
+    pub fn copied(&self) -> ForAllValues
+        ensures { result ≡ self.now }
+    {
+        copy_of(self.as_slice())
+    }
+}
+
+fn copy_of(numbers: &[u32]) -> ForAllValues
+    requires { length numbers.now ≤ 2 }
+    ensures { result ≡ numbers.now }
+{
+    let mut copy = ForAllValues::new();
+    for (i, number) in numbers.iter().enumerate() {
+        let pushed = copy.try_push(*number);
+        prove!(pushed.is_ok());
+    }
+    copy
 }
 
 /// A derivation. A whole one is a `Glue` node. It may name anything: whether it is valid is a matter of the rules and the query.

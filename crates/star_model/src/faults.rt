@@ -1,7 +1,11 @@
 // Why a rule file is refused. Statements and nodes are numbered from 1.
 
+ghost use Rattle.std.specs.Prelude.{◌≡◌};
+ghost use Rattle.star_model.specs.declared.faults.RuleFault.TheVariants.{Memory};
+
 use crate::num::Num;
 use crate::rules::{Flavour, Which};
+use std::alloc::AllocError;
 
 /// The STARs that each rule file has: those from which goals are derived.
 #[derive(Clone, Copy, Debug, PartialEq, Eq)]
@@ -69,4 +73,12 @@ pub enum RuleFault {
     TooWide(u32, Num),
     /// Want of memory. It may come before any other.
     Memory,
+}
+
+impl From<AllocError> for RuleFault {
+    ghost from_gives = { λ _ e. e ≡ Memory };
+
+    fn from(_: AllocError) -> Self {
+        RuleFault::Memory
+    }
 }

@@ -171,4 +171,23 @@ impl Chain {
             Err(item)
         }
     }
+
+    /// An equal chain. It takes no memory.
+    pub fn copied(&self) -> Chain
+        ensures { result ≡ self.now }
+    {
+        copy_of(self.as_slice())
+    }
+}
+
+fn copy_of(ops: &[GlueOp]) -> Chain
+    requires { length ops.now ≤ 3 }
+    ensures { result ≡ ops.now }
+{
+    let mut copy = Chain::new();
+    for (i, op) in ops.iter().enumerate() {
+        let pushed = copy.try_push(*op);
+        prove!(pushed.is_ok());
+    }
+    copy
 }

@@ -1,16 +1,18 @@
 // The laws of the definitions, each the clause of a function that does nothing.
 
-ghost use Rattle.std.specs.Prelude.{◌≡◌, ℕ, ◌<◌, ◌≤◌, ◌+◌, ◌-◌, ◌*◌, ◌^◌, max, Bool, true, false, ◌&&◌, ◌||◌, not, nat_eq, ◌↔◌, List as Seq, [], ◌∷◌, ◌++◌, Some, None, if◌then◌else◌, replicate};
-ghost use Rattle.std.specs.List.{count_by};
+ghost use Rattle.std.specs.Prelude.{◌≡◌, ◌≢◌, ℕ, ◌<◌, ◌≤◌, ◌+◌, ◌-◌, ◌*◌, ◌^◌, max, Bool, true, false, ◌&&◌, ◌||◌, not, nat_eq, ◌↔◌, List as Seq, [], ◌∷◌, ◌++◌, Some, None, if◌then◌else◌, replicate, length, map};
+ghost use Rattle.std.specs.List.{count_by, list_all};
 ghost use Rattle.star_model.specs.Numbers.{top, cut_sum, cut_difference, cut_product, cut_quotient, quotient_up};
-ghost use Rattle.star_model.specs.Sets.{has, set_of, single, union, meet, minus, is_within, splits, is_pair, IsSplit};
+ghost use Rattle.star_model.specs.Sets.{has, set_of, single, union, meet, minus, is_within, size, splits, is_pair, IsSplit};
 ghost use Rattle.star_model.specs.Columns.{Columns, has_column, columns_where, union_columns, is_column_at, with_column, is_columns_within};
 ghost use Rattle.star_model.specs.Monotone.{passes, first_offending, IsMonotone};
 ghost use Rattle.star_model.specs.Costs.{formula_of, costs_of, same_flavour, same_which};
 ghost use Rattle.star_model.specs.Vectors.{is_better, satisfies, same_column};
 ghost use Rattle.star_model.specs.Exchange.{HasCard, IsExchangeable, ChainsAreExchangeable};
-ghost use Rattle.star_model.specs.Kinds.{MeansItsKind};
-ghost use Rattle.star_model.specs.Meaning.{meaning};
+ghost use Rattle.star_model.specs.Kinds.{MeansItsKind, kind_of, kind_of_range, kind_of_value};
+ghost use Rattle.star_model.specs.Meaning.{meaning, as_stream, member_at, members_of};
+ghost use Rattle.star_model.specs.Streams.{tables_pass, has_tables};
+ghost use Rattle.star_model.specs.WellFormed.{WellFormedQuery, Each};
 ghost use Rattle.star_model.specs.Plans.{vector};
 ghost use Rattle.star_model.specs.Expected.{Expected};
 ghost use Rattle.star_model.specs.Derivations.{plan_of, is_valid, HasVector, IsRoot};
@@ -24,9 +26,14 @@ ghost use Rattle.star_model.specs.declared.plans.Plan.{Plan};
 ghost use Rattle.star_model.specs.declared.plans.Props.{Props};
 ghost use Rattle.star_model.specs.declared.plans.Require.{Require};
 ghost use Rattle.star_model.specs.declared.rules.Flavour.{Flavour};
+ghost use Rattle.star_model.specs.declared.rules.Kind.{Kind};
+ghost use Rattle.star_model.specs.declared.rules.Kind.TheVariants as kind;
+ghost use Rattle.star_model.specs.declared.rules.Range.{Range};
+ghost use Rattle.star_model.specs.declared.rules.ValueExpr.{ValueExpr};
 ghost use Rattle.star_model.specs.declared.rules.Which.{Which};
 ghost use Rattle.star_model.specs.declared.rules.RuleFile.{RuleFile};
 ghost use Rattle.star_model.specs.declared.derivations.Deriv.{Deriv};
+ghost use Rattle.star_model.specs.declared.values.RuleValue.{RuleValue};
 
 /// No result passes 10^18.
 pub fn results_are_cut()
@@ -109,6 +116,13 @@ pub fn each_split_comes_once()
     ensures only { (s a b : ℕ) → s < 2 ^ 32 → 0 < count_by (is_pair a b) (splits s) → IsSplit s a b }
 {}
 
+/// A part of a set that isn't the whole set has fewer members, and so has each part of a split.
+pub fn parts_are_smaller()
+    ensures part { (s t : ℕ) → s < 2 ^ 32 → t < 2 ^ 32 → is_within t s ≡ true → t ≢ s → size t < size s }
+    ensures left { (s a b : ℕ) → s < 2 ^ 32 → IsSplit s a b → (a < s) × (is_within a s ≡ true) × (size a < size s) }
+    ensures right { (s a b : ℕ) → s < 2 ^ 32 → IsSplit s a b → (b < s) × (is_within b s ≡ true) × (size b < size s) }
+{}
+
 /// A formula that passes the monotone check doesn't fall where no cost of an input falls.
 pub fn passing_is_monotone()
     ensures { IsMonotone }
@@ -149,6 +163,26 @@ pub fn better_inputs_serve()
 /// A well-kinded expression means a value of its kind.
 pub fn values_have_their_kinds()
     ensures { (q : Query) → MeansItsKind (meaning q) }
+{}
+
+/// A stream that a well-kinded expression means has the quantifiers of a bound stream: where all bound streams pass a test of them,
+/// as that there are some, it passes.
+pub fn streams_have_bound_quantifiers()
+    ensures each { (q : Query) (test : ℕ → Bool) (b : Seq RuleValue) (e : ValueExpr) (k : Kind) → kind_of (map kind_of_value b) e ≡ Some k
+        → list_all (tables_pass test) b ≡ true → tables_pass test (meaning q b e) ≡ true }
+    ensures some { (q : Query) (b : Seq RuleValue) (e : ValueExpr) (k : Kind) → kind_of (map kind_of_value b) e ≡ Some k → list_all has_tables b ≡ true → has_tables (meaning q b e) ≡ true }
+    ensures stream { (q : Query) (test : ℕ → Bool) (b : Seq RuleValue) (e : ValueExpr) → kind_of (map kind_of_value b) e ≡ Some kind.Stream → list_all (tables_pass test) b ≡ true
+        → test (as_stream (meaning q b e)).tables ≡ true }
+{}
+
+/// The members of a well-kinded range have its kind. None is a stream, so that each test of bound streams is still passed where one
+/// is bound too. There are at most 64.
+pub fn ranges_have_members_of_their_kind()
+    ensures kind { (q : Query) (b : Seq RuleValue) (r : Range) (k : Kind) → kind_of_range (map kind_of_value b) r ≡ Some k → Each (λ v. kind_of_value v ≡ k) (members_of q b r) }
+    ensures streams { (q : Query) (test : ℕ → Bool) (b : Seq RuleValue) (r : Range) → list_all (tables_pass test) (members_of q b r) ≡ true }
+    ensures member { (b : Seq RuleValue) (r : Range) (k : Kind) (n : ℕ) → kind_of_range (map kind_of_value b) r ≡ Some k → kind_of_value (member_at r n) ≡ k }
+    ensures no_stream { (test : ℕ → Bool) (r : Range) (n : ℕ) → tables_pass test (member_at r n) ≡ true }
+    ensures few { (q : Query) → WellFormedQuery q → (b : Seq RuleValue) (r : Range) → length (members_of q b r) ≤ 64 }
 {}
 
 /// The walk over a derivation finds the vector of a valid one, which is that of its plan, and none of another.
