@@ -1,4 +1,3 @@
-mod Looking
 mod Turns
 mod Depth
 mod Printed

@@ -1,4 +1,3 @@
-pub mod Tables
 pub mod Reading
 pub mod Nests
 pub mod Printing

@@ -7,11 +7,10 @@ ghost use Rattle.spelling.specs.Cursors.{AreTokensOf};
 ghost use Rattle.spelling.specs.Lexemes.{lexeme_of, lexemes_of};
 ghost use Rattle.spelling.specs.Names.{found_in};
 ghost use Rattle.spelling.specs.Formulas.{formula_word, formula_symbols, formula_keywords, variable_rows, all_variables};
-ghost use Rattle.cost_formula.specs.Tables.{spellings};
 
 use sb_text::{Token, TokenKind};
-use spelling::Cursor;
 use spelling::words::FormulaWord;
+use spelling::{Cursor, found_in};
 use star_model::formula::{Test, Var};
 use std::alloc::{AllocError, Global};
 use std::slice;
@@ -53,30 +52,18 @@ const SYMBOLS: [(&[u8], FormulaWord); 10] = [
     (b",", FormulaWord::Comma),
 ];
 
-// What stands beside these bytes in a table, `Other` where they aren't in it.
-fn found_in(rows: &[(&[u8], FormulaWord)], bytes: &[u8]) -> FormulaWord
-    ensures { result ≡ found_in FormulaWord.Other (spellings rows.now) bytes.now }
-{
-    for (spelling, word) in rows {
-        if *spelling == bytes {
-            return *word;
-        }
-    }
-    FormulaWord::Other
-}
-
 // What a word stands for.
 fn named(bytes: &[u8]) -> FormulaWord
     ensures { result ≡ found_in FormulaWord.Other (variable_rows all_variables formula_keywords) bytes.now }
 {
-    found_in(&NAMED, bytes)
+    found_in(&NAMED, bytes, FormulaWord::Other)
 }
 
 // What a symbol stands for.
 fn symbol(bytes: &[u8]) -> FormulaWord
     ensures { result ≡ found_in FormulaWord.Other formula_symbols bytes.now }
 {
-    found_in(&SYMBOLS, bytes)
+    found_in(&SYMBOLS, bytes, FormulaWord::Other)
 }
 
 // What a number stands for.

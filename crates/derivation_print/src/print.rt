@@ -1,7 +1,6 @@
 // Printing a derivation, a statement for each node, in preorder.
 
 ghost use Rattle.std.specs.Prelude.{◌≡◌, IfOk, OnOk};
-ghost use Rattle.spelling.specs.Flavours.{flavour_word};
 ghost use Rattle.spelling.specs.Derivations.{glue_word, set_lexemes, split_lexemes, statement_of, statements_of, canonical};
 ghost use Rattle.spelling.specs.Derivations as step;
 ghost use Rattle.derivation_print.specs.Members.{member_lexemes};
@@ -9,6 +8,7 @@ ghost use Rattle.spelling.specs.Writing.{puts, ended, lines};
 
 use crate::members::Members;
 use spelling::Writer;
+use spelling::flavours::flavour_word;
 use star_model::derivations::Deriv;
 use star_model::plans::{GlueOp, Goal};
 use star_model::rules::Flavour;
@@ -22,24 +22,6 @@ fn glue_word(operator: GlueOp) -> &'static [u8]
         GlueOp::Sort => b"sort",
         GlueOp::Ship => b"ship",
         GlueOp::Store => b"store",
-    }
-}
-
-fn flavour_word(flavour: Flavour) -> &'static [u8]
-    ensures { result.now ≡ flavour_word flavour }
-{
-    match flavour {
-        Flavour::AccessHeap => b"ACCESS_HEAP",
-        Flavour::AccessIndex => b"ACCESS_INDEX",
-        Flavour::Get => b"GET",
-        Flavour::Filter => b"FILTER",
-        Flavour::Sort => b"SORT",
-        Flavour::Store => b"STORE",
-        Flavour::Ship => b"SHIP",
-        Flavour::Probe => b"PROBE",
-        Flavour::JoinNl => b"JOIN_NL",
-        Flavour::JoinMerge => b"JOIN_MERGE",
-        Flavour::JoinHash => b"JOIN_HASH",
     }
 }
 
@@ -131,7 +113,7 @@ fn print_reference(
 fn print_operator(out: &mut Writer, flavour: Flavour) -> Result<(), AllocError>
     ensures { OnOk result (out.new ≡ ended (puts out.old (statement_of (step.Operator flavour)))) }
 {
-    out.word(flavour_word(flavour))?;
+    out.word(flavour_word(flavour).as_bytes())?;
     out.end_statement()
 }
 

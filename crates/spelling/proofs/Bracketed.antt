@@ -4,6 +4,7 @@ use Rattle.std.proofs.lemmas.Option.{some_pair_parts}
 use Rattle.spelling.specs.Lexemes.{Lexeme, Word, left_bracket, right_bracket, comma, joined_by, bracketed}
 use Rattle.spelling.specs.Reading.{Reader, ◌>>=◌, pure, the_symbol}
 use Rattle.spelling.specs.ValueReading.{one_at, last_two_at, two_at}
+use Rattle.spelling.specs.SeriesReadingCases.{Spells}
 use Rattle.spelling.proofs.ReadingLaws.{the_symbol_reads, then_reads}
 
 -- ---- where brackets close
@@ -41,11 +42,8 @@ module _ {A : Type 0} (item : Reader A) where
 abbrev pub IsSpelled : {A : Type 0} → (A → List Lexeme) → (A → Type 0) → List Lexeme → A → List Lexeme → Type 0
 IsSpelled spell Ok ws x rest = (ws ≡ spell x ++ rest) × Ok x
 
-abbrev pub ReadsSpelled : {A : Type 0} → (A → List Lexeme) → (A → Type 0) → Reader A → Type 0
-ReadsSpelled {A} spell Ok item = (ws : List Lexeme) (x : A) (rest : List Lexeme) → item ws ≡ Some (x, rest) → IsSpelled spell Ok ws x rest
-
-module _ {A : Type 0} (spell : A → List Lexeme) (Ok : A → Type 0) (item : Reader A) (sound : ReadsSpelled spell Ok item) where
-  pub one_spelled : ReadsSpelled (λ x. bracketed (joined_by comma (spell x ∷ []))) Ok (one_at item)
+module _ {A : Type 0} (spell : A → List Lexeme) (Ok : A → Type 0) (item : Reader A) (sound : Spells item spell Ok) where
+  pub one_spelled : Spells (one_at item) (λ x. bracketed (joined_by comma (spell x ∷ []))) Ok
   unfolding one_at
   one_spelled ws x rest read =
       then_reads (the_symbol (codes "(")) _ ws x rest read (λ u left opens read2.
@@ -61,7 +59,7 @@ module _ {A : Type 0} (spell : A → List Lexeme) (Ok : A → Type 0) (item : Re
   abbrev pub BothOk : A × A → Type 0
   BothOk p = Ok p.0 × Ok p.1
 
-  pub last_two_spelled : ReadsSpelled (λ (p : A × A). spell p.0 ++ comma ∷ (spell p.1 ++ right_bracket ∷ [])) BothOk (last_two_at item)
+  pub last_two_spelled : Spells (last_two_at item) (λ (p : A × A). spell p.0 ++ comma ∷ (spell p.1 ++ right_bracket ∷ [])) BothOk
   unfolding last_two_at
   last_two_spelled ws p rest read =
       then_reads item _ ws p rest read (λ x left first read2.
@@ -79,7 +77,7 @@ module _ {A : Type 0} (spell : A → List Lexeme) (Ok : A → Type 0) (item : Re
         subst BothOk is.0 (one.1, two.1),
       )))))
 
-  pub two_spelled : ReadsSpelled (λ (p : A × A). bracketed (joined_by comma (spell p.0 ∷ spell p.1 ∷ []))) BothOk (two_at item)
+  pub two_spelled : Spells (two_at item) (λ (p : A × A). bracketed (joined_by comma (spell p.0 ∷ spell p.1 ∷ []))) BothOk
   unfolding two_at
   two_spelled ws p rest read =
       then_reads (the_symbol (codes "(")) _ ws p rest read (λ u left opens read2.
@@ -91,7 +89,7 @@ module _ {A : Type 0} (spell : A → List Lexeme) (Ok : A → Type 0) (item : Re
       ))
 
 -- what is made of an item behind a word
-module _ {A B : Type 0} (items : A → List Lexeme) (Ok : A → Type 0) (read : Reader A) (sound : ReadsSpelled items Ok read)
+module _ {A B : Type 0} (items : A → List Lexeme) (Ok : A → Type 0) (read : Reader A) (sound : Spells read items Ok)
     (spell : B → List Lexeme) (Good : B → Type 0) (make : A → B) (word : List ℕ)
     (lexemes : (x : A) → spell (make x) ≡ Word word ∷ items x) (good : (x : A) → Ok x → Good (make x)) where
   pub made_spelled : (xs ws : List Lexeme) (y : B) (rest : List Lexeme) → xs ≡ Word word ∷ ws → (read >>= λ x. pure (make x)) ws ≡ Some (y, rest) → IsSpelled spell Good xs y rest

@@ -18,7 +18,8 @@ use Rattle.spelling.specs.Values.{value_lexemes, IsValue, condition_lexemes, IsC
 use Rattle.spelling.specs.ValueReading.{one_at, two_at, value_at}
 use Rattle.spelling.specs.ConditionReading.{unary_of, binary_of, junction_of, conditional, condition_head, condition_by, condition_at}
 use Rattle.spelling.proofs.ReadingLaws.{a_word_reads, then_reads}
-use Rattle.spelling.proofs.Bracketed.{one_ends, two_ends, one_read, two_read, IsSpelled, ReadsSpelled, one_spelled, two_spelled, made_spelled}
+use Rattle.spelling.specs.SeriesReadingCases.{Spells}
+use Rattle.spelling.proofs.Bracketed.{one_ends, two_ends, one_read, two_read, IsSpelled, one_spelled, two_spelled, made_spelled}
 use Rattle.spelling.proofs.RuleHeads.{unary_test_word, binary_test_word, junction_word, unary_test_head, binary_test_head, junction_head, unary_test_lexemes, binary_test_lexemes, junction_lexemes, unary_test_is_condition, binary_test_is_condition, junction_is_condition, condition_word, condition_of_word}
 use Rattle.spelling.proofs.ValueReading.{len}
 use Rattle.spelling.proofs.RangeLaws.{one_value_is_read, two_values_are_read, one_value_spelled, two_values_spelled}
@@ -107,7 +108,7 @@ module _ (scope : List (List ℕ)) where
 
   -- ---- what is read is spelled
 
-  module _ (n : ℕ) (inner : Reader Condition) (sound : ReadsSpelled condition_lexemes (IsCondition scope) inner) where
+  module _ (n : ℕ) (inner : Reader Condition) (sound : Spells inner condition_lexemes (IsCondition scope)) where
     -- a condition on values or conditions behind its word
     abbrev Stands : List Lexeme → Condition → List Lexeme → Type 0
     Stands ws c rest = IsSpelled condition_lexemes (IsCondition scope) ws c rest
@@ -129,13 +130,13 @@ module _ (scope : List (List ℕ)) where
         (λ p. junction_of f p.0 p.1) (junction_word f) (λ p. junction_lexemes f p.0 p.1) (λ p h. junction_is_condition scope f p.0 p.1 h.0 h.1) xs ws c rest (first ∙ ap (λ w. Word w ∷ ws) (is (λ e. cc))) read
     conditional_spelled word head.Other xs ws c rest is first read = absurd cc
 
-    condition_by_spelled : ReadsSpelled condition_lexemes (IsCondition scope) (condition_by scope n inner)
+    condition_by_spelled : Spells (condition_by scope n inner) condition_lexemes (IsCondition scope)
     unfolding condition_by
     condition_by_spelled ws c rest read =
         then_reads a_word _ ws c rest read (λ word left first read2.
         conditional_spelled word (condition_head word) ws left c rest (λ else_. condition_of_word word (condition_head word) refl else_) ((a_word_reads ws left word).0 first) read2)
 
-  pub condition_is_spelled : (n : ℕ) → ReadsSpelled condition_lexemes (IsCondition scope) (condition_at scope n)
+  pub condition_is_spelled : (n : ℕ) → Spells (condition_at scope n) condition_lexemes (IsCondition scope)
   unfolding condition_at
   condition_is_spelled zero ws c rest read = absurd cc
   condition_is_spelled (suc n) ws c rest read = condition_by_spelled n (condition_at scope n) (condition_is_spelled n) ws c rest read

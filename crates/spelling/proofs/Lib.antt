@@ -38,6 +38,8 @@ mod ReadingLaws
 mod Signs
 mod WritingLaws
 mod Doubling
+mod Looking
+mod PrintedLists
 mod RuleWordLaws
 mod PlanBrackets
 mod PlanSpelled

@@ -11,7 +11,8 @@ use Rattle.spelling.specs.Reading.{a_word}
 use Rattle.spelling.specs.Values.{value_lexemes, IsValue, range_lexemes, IsRange}
 use Rattle.spelling.specs.ValueReading.{one_at, two_at, value_at, ranging, range_at, range_head}
 use Rattle.spelling.proofs.ReadingLaws.{a_word_reads, then_reads}
-use Rattle.spelling.proofs.Bracketed.{one_ends, two_ends, one_read, two_read, IsSpelled, ReadsSpelled, one_spelled, two_spelled, made_spelled}
+use Rattle.spelling.specs.SeriesReadingCases.{Spells}
+use Rattle.spelling.proofs.Bracketed.{one_ends, two_ends, one_read, two_read, IsSpelled, one_spelled, two_spelled, made_spelled}
 use Rattle.spelling.proofs.RuleHeads.{range_word, range_of_word}
 use Rattle.spelling.proofs.ValueReading.{len, value_is_read}
 use Rattle.spelling.proofs.ValueSpelled.{value_is_spelled}
@@ -32,11 +33,11 @@ module _ (scope : List (List ℕ)) where
       (ap (value_at scope n) (two_ends (value_lexemes v) (value_lexemes w) rest) ∙ value_is_read scope n v (comma ∷ (value_lexemes w ++ right_bracket ∷ rest)) h less refl)
       (value_is_read scope n w (right_bracket ∷ rest) k fewer refl)
 
-  pub one_value_spelled : (n : ℕ) → ReadsSpelled (λ v. bracketed (joined_by comma (value_lexemes v ∷ []))) (IsValue scope) (one_at (value_at scope n))
+  pub one_value_spelled : (n : ℕ) → Spells (one_at (value_at scope n)) (λ v. bracketed (joined_by comma (value_lexemes v ∷ []))) (IsValue scope)
   one_value_spelled n = one_spelled value_lexemes (IsValue scope) (value_at scope n) (value_is_spelled scope n)
 
   pub two_values_spelled : (n : ℕ)
-      → ReadsSpelled (λ (p : ValueExpr × ValueExpr). bracketed (joined_by comma (value_lexemes p.0 ∷ value_lexemes p.1 ∷ []))) (λ p. IsValue scope p.0 × IsValue scope p.1) (two_at (value_at scope n))
+      → Spells (two_at (value_at scope n)) (λ (p : ValueExpr × ValueExpr). bracketed (joined_by comma (value_lexemes p.0 ∷ value_lexemes p.1 ∷ []))) (λ p. IsValue scope p.0 × IsValue scope p.1)
   two_values_spelled n = two_spelled value_lexemes (IsValue scope) (value_at scope n) (value_is_spelled scope n)
 
   -- ---- ranges
@@ -65,7 +66,7 @@ module _ (scope : List (List ℕ)) where
       xs ws x rest (first ∙ ap (λ w. Word w ∷ ws) (is (λ e. cc))) read
   ranging_spelled n word head.Other xs ws x rest is first read = absurd cc
 
-  pub range_is_spelled : (n : ℕ) → ReadsSpelled range_lexemes (IsRange scope) (range_at scope n)
+  pub range_is_spelled : (n : ℕ) → Spells (range_at scope n) range_lexemes (IsRange scope)
   unfolding range_at
   range_is_spelled n ws x rest read =
       then_reads a_word _ ws x rest read (λ word left first read2.

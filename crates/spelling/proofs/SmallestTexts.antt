@@ -1,5 +1,5 @@
 -- What the smallest texts spell: the smallest rule file, a catalogue of one site and one table, and a query for one column.
-use Rattle.std.proofs.Common.{◌≡◌, ℕ, List, [], ◌∷◌, Some, None, refl, ap, ◌∙◌, arith}
+use Rattle.std.proofs.Common.{◌≡◌, ℕ, List, [], ◌∷◌, Some, None, refl, ap, ◌∙◌}
 use Rattle.star_model.specs.declared.catalogue.Catalogue.{Catalogue}
 use Rattle.star_model.specs.declared.catalogue.SiteDef.{SiteDef}
 use Rattle.star_model.specs.declared.catalogue.TableDef.{TableDef}
@@ -13,7 +13,7 @@ use Rattle.spelling.specs.FormulaCanonical.{words_of, rank_of}
 use Rattle.spelling.specs.Formulas.{formula_lexeme}
 use Rattle.spelling.specs.Values.{value_lexemes, IsValue}
 use Rattle.spelling.specs.Rules as spec
-use Rattle.spelling.specs.Rules.{plan_lexemes, IsPlan, formula_def_lexemes, SpellsFormulaDef, SpellsDefinitions, SpellsRules, KeepsCounts}
+use Rattle.spelling.specs.Rules.{plan_lexemes, IsPlan, formula_def_lexemes, SpellsFormulaDef, SpellsDefinitions, SpellsRules}
 use Rattle.spelling.specs.Tiny.{tiny_lexemes, tiny_rules}
 use Rattle.spelling.proofs.Statements.{same_self}
 use Rattle.spelling.proofs.FormulaLaws.{canonical_formula}
@@ -57,10 +57,6 @@ tiny_defines =
 
 pub tiny_is_spelled : (text : List ℕ) → IsStatements text tiny_lexemes → SpellsRules text tiny_rules
 tiny_is_spelled text are = record { statements = tiny_lexemes; are = are; define = tiny_defines }
-
-pub tiny_keeps_counts : KeepsCounts tiny_rules
-unfolding tiny_rules
-tiny_keeps_counts = (record { alternatives = omega arith; ranges = (omega arith, tt) }, (record { alternatives = omega arith; ranges = (omega arith, tt) }, tt))
 
 first_place : (name : List ℕ) (names : List (List ℕ)) → place_of name (name ∷ names) ≡ Some 0
 first_place name names = rw (same_self name) refl

@@ -17,7 +17,8 @@ use Rattle.spelling.specs.Reading.{Reader, ◌>>=◌, ◌>>◌, pure, the_symbol
 use Rattle.spelling.specs.Values.{reserved_in_rules, place_among, value_lexemes, IsValue, in_squares}
 use Rattle.spelling.specs.ValueReading.{one_at, last_two_at, two_at, constant_of, unary_of, binary_of, valued_of, variable_at, value_head, indexable_at, headed, bare_at, required_at, requiring, requirement_at, requirement_head, turn, requirements_at, value_by, value_at}
 use Rattle.spelling.proofs.ReadingLaws.{the_symbol_reads, a_word_reads, then_reads}
-use Rattle.spelling.proofs.Bracketed.{three_ends, IsSpelled, ReadsSpelled, one_spelled, last_two_spelled, two_spelled, made_spelled}
+use Rattle.spelling.specs.SeriesReadingCases.{Spells}
+use Rattle.spelling.proofs.Bracketed.{three_ends, IsSpelled, one_spelled, last_two_spelled, two_spelled, made_spelled}
 use Rattle.spelling.proofs.RuleHeads.{value_word, unary_word, binary_word, head_of_word, constant_lexemes, unary_lexemes, binary_lexemes, constant_is_value, unary_is_value, binary_is_value, requirement_word, valued_word, valued_lexemes, valued_is_value, requirement_of_word}
 
 module _ (scope : List (List ℕ)) where
@@ -34,7 +35,7 @@ module _ (scope : List (List ℕ)) where
           let is = some_pair_parts (plain.Variable name (place_among scope name)) v ws rest (rw free at read) in
           (first ∙ (λ i. Word name ∷ is.1 i) ∙ ap (λ u. value_lexemes u ++ rest) is.0, subst (IsValue scope) is.0 (free, refl))
 
-  module _ (inner : Reader ValueExpr) (sound : ReadsSpelled value_lexemes (IsValue scope) inner) where
+  module _ (inner : Reader ValueExpr) (sound : Spells inner value_lexemes (IsValue scope)) where
     unary_spelled : (f : UnaryHead) (xs ws : List Lexeme) (v : ValueExpr) (rest : List Lexeme) → xs ≡ Word (unary_word f) ∷ ws
         → (one_at inner >>= λ x. pure (unary_of f x)) ws ≡ Some (v, rest) → ValueStands xs v rest
     unary_spelled f xs ws v rest first read =
@@ -151,7 +152,7 @@ module _ (scope : List (List ℕ)) where
             let more = later w mid stood.1 read2 in
             (ap (λ l. value_lexemes t ++ l) ((the_symbol_reads (codes "[") ws left).0 found) ∙ stood.0 ∙ more.0, more.1))
 
-    value_by_spelled : ReadsSpelled value_lexemes (IsValue scope) (value_by scope inner)
+    value_by_spelled : Spells (value_by scope inner) value_lexemes (IsValue scope)
     unfolding value_by
     value_by_spelled ws v rest read =
         then_reads (bare_at scope inner) _ ws v rest read (λ t left bare read2.
@@ -160,7 +161,7 @@ module _ (scope : List (List ℕ)) where
         (stood.0 ∙ more.0, more.1))
 
   -- what is read as a value is spelled so
-  pub value_is_spelled : (n : ℕ) → ReadsSpelled value_lexemes (IsValue scope) (value_at scope n)
+  pub value_is_spelled : (n : ℕ) → Spells (value_at scope n) value_lexemes (IsValue scope)
   unfolding value_at
   value_is_spelled zero ws v rest read = absurd cc
   value_is_spelled (suc n) ws v rest read = value_by_spelled (value_at scope n) (value_is_spelled n) ws v rest read

@@ -1,4 +1,4 @@
--- A list has at most one first item of a kind, and none where none is of this kind; and which it is where the list grows.
+-- A list has at most one first item of a kind, and none where none is of this kind, at no place; and which it is where the list grows.
 -- (No clause of a function can say so of every property.)
 use Rattle.std.specs.Prelude.{◌≡◌, ℕ, ◌+◌, List, [], ◌∷◌, ◌++◌, length}
 use Rattle.std.proofs.Common.{ap, refl, sym, subst, add-one, append_assoc, append-nil}
@@ -19,6 +19,18 @@ none_first Has before items zero none p = p
 none_first Has before [] (suc n) none p = p
 none_first Has before (x ∷ xs) (suc zero) none p = none.0 p
 none_first Has before (x ∷ xs) (suc (suc n)) none p = none_first Has (before ++ x ∷ []) xs (suc n) none.1 p.1
+
+-- ---- one item, wherever it stands
+
+module _ {A : Type 0} (Has : List A → A → Type 0) where
+  none_from_at : (before early later : List A) (x : A) → NoneFrom Has before (early ++ x ∷ later) → Has (before ++ early) x → ⊥
+  none_from_at before [] later x none has = none.0 (subst (λ (l : List A). Has l x) (append-nil before) has)
+  none_from_at before (y ∷ early) later x none has =
+      none_from_at (before ++ y ∷ []) early later x none.1 (subst (λ (l : List A). Has l x) (sym (append_assoc before (y ∷ []) early)) has)
+
+  -- none has it, thus not this one
+  pub none_at : (early later : List A) (x : A) → NoneHas Has (early ++ x ∷ later) → Has early x → ⊥
+  none_at early later x none has = none_from_at [] early later x none has
 
 -- ---- one item more at the end
 

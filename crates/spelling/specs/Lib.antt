@@ -1,6 +1,7 @@
 pub mod Lexemes
 pub mod Layout
 pub mod Names
+pub mod Tables
 pub mod Flavours
 pub mod Derivations
 pub mod Catalogues
@@ -30,4 +31,6 @@ pub mod PlanReading
 pub mod StarReading
 pub mod ReadingCases
 pub mod SeriesReadingCases
+pub mod SeriesLoopCases
 pub mod FormulaHeads
+pub mod Joining

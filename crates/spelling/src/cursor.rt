@@ -1,6 +1,6 @@
 // Reading the lexemes of a statement from the front.
 ghost use Rattle.std.specs.Prelude.{◌≡◌, option_map, option_copied, ℕ, IsTrue, ◌↔◌, [], ◌<◌, length, drop, IfNone, IfOk};
-ghost use Rattle.spelling.specs.Lexemes.{undoubled, lexeme_of, lexemes_of};
+ghost use Rattle.spelling.specs.Lexemes.{undoubled, lexemes_of};
 ghost use Rattle.spelling.specs.Cursors.{AreTokensOf, IsMachineNumber};
 ghost use Rattle.std.specs.Str.Parse.{digits_value};
 ghost use Rattle.sb_text.specs.Tokens.{text_of};
@@ -56,30 +56,6 @@ pub fn number_of(source: &[u8], token: &Token) -> u64
     ensures { result ≡ digits_value 10 (text_of source.now token.now) }
 {
     value_of(&source[token.start as usize..token.end as usize])
-}
-
-fn same_text(source: &[u8], token: &Token, other: &[u8], theirs: &Token) -> bool
-    requires token { IsTokenOf source.now token.now }
-    requires theirs { IsTokenOf other.now theirs.now }
-    ensures { IsTrue result ↔ (text_of source.now token.now ≡ text_of other.now theirs.now) }
-{
-    source[token.start as usize..token.end as usize]
-        == other[theirs.start as usize..theirs.end as usize]
-}
-
-/// Whether a token of one source says the same as a token of another.
-pub fn same_lexeme(source: &[u8], token: &Token, other: &[u8], theirs: &Token) -> bool
-    requires token { IsTokenOf source.now token.now }
-    requires theirs { IsTokenOf other.now theirs.now }
-    ensures { IsTrue result ↔ (lexeme_of source.now token.now ≡ lexeme_of other.now theirs.now) }
-{
-    if token.kind != theirs.kind {
-        return false;
-    }
-    if token.kind == TokenKind::Number {
-        return number_of(source, token) == number_of(other, theirs);
-    }
-    same_text(source, token, other, theirs)
 }
 
 impl<'a> Cursor<'a> {

@@ -1,10 +1,10 @@
-// How operators and kinds are written in rule files and derivations.
+// How operators, costs and kinds are written in rule files, derivations and messages.
 
 ghost use Rattle.std.specs.Prelude.{◌≡◌};
-ghost use Rattle.spelling.specs.Flavours.{flavour_word, kind_word};
+ghost use Rattle.spelling.specs.Flavours.{flavour_word, which_word, kind_word};
 ghost use Rattle.spelling.specs.RuleWords.{flavour_of, kind_of_word};
 
-use star_model::rules::{Flavour, Kind};
+use star_model::rules::{Flavour, Kind, Which};
 
 const FLAVOURS: [Flavour; 11] = [
     Flavour::AccessHeap,
@@ -30,21 +30,21 @@ const KINDS: [Kind; 6] = [
 ];
 
 /// The word for an operator.
-pub fn flavour_word(flavour: Flavour) -> &'static [u8]
+pub fn flavour_word(flavour: Flavour) -> &'static str
     ensures { result.now ≡ flavour_word flavour }
 {
     match flavour {
-        Flavour::AccessHeap => b"ACCESS_HEAP",
-        Flavour::AccessIndex => b"ACCESS_INDEX",
-        Flavour::Get => b"GET",
-        Flavour::Filter => b"FILTER",
-        Flavour::Sort => b"SORT",
-        Flavour::Store => b"STORE",
-        Flavour::Ship => b"SHIP",
-        Flavour::Probe => b"PROBE",
-        Flavour::JoinNl => b"JOIN_NL",
-        Flavour::JoinMerge => b"JOIN_MERGE",
-        Flavour::JoinHash => b"JOIN_HASH",
+        Flavour::AccessHeap => "ACCESS_HEAP",
+        Flavour::AccessIndex => "ACCESS_INDEX",
+        Flavour::Get => "GET",
+        Flavour::Filter => "FILTER",
+        Flavour::Sort => "SORT",
+        Flavour::Store => "STORE",
+        Flavour::Ship => "SHIP",
+        Flavour::Probe => "PROBE",
+        Flavour::JoinNl => "JOIN_NL",
+        Flavour::JoinMerge => "JOIN_MERGE",
+        Flavour::JoinHash => "JOIN_HASH",
     }
 }
 
@@ -56,20 +56,30 @@ pub fn flavour_of(word: &[u8]) -> Option<Flavour>
     FLAVOURS
         .iter()
         .copied()
-        .find(|flavour| flavour_word(*flavour) == word)
+        .find(|flavour| flavour_word(*flavour).as_bytes() == word)
+}
+
+/// The word for a cost.
+pub fn which_word(which: Which) -> &'static str
+    ensures { result.now ≡ which_word which }
+{
+    match which {
+        Which::Cost => "cost",
+        Which::Rescan => "rescan",
+    }
 }
 
 /// The word for a kind.
-pub fn kind_word(kind: Kind) -> &'static [u8]
+pub fn kind_word(kind: Kind) -> &'static str
     ensures { result.now ≡ kind_word kind }
 {
     match kind {
-        Kind::Stream => b"stream",
-        Kind::Quants => b"quants",
-        Kind::Preds => b"preds",
-        Kind::Cols => b"cols",
-        Kind::Site => b"site",
-        Kind::Index => b"index",
+        Kind::Stream => "stream",
+        Kind::Quants => "quants",
+        Kind::Preds => "preds",
+        Kind::Cols => "cols",
+        Kind::Site => "site",
+        Kind::Index => "index",
     }
 }
 
@@ -78,5 +88,8 @@ pub fn kind_word(kind: Kind) -> &'static [u8]
 pub fn kind_of(word: &[u8]) -> Option<Kind>
     ensures { result ≡ kind_of_word word.now }
 {
-    KINDS.iter().copied().find(|kind| kind_word(*kind) == word)
+    KINDS
+        .iter()
+        .copied()
+        .find(|kind| kind_word(*kind).as_bytes() == word)
 }

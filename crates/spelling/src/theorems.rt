@@ -2,13 +2,13 @@
 
 ghost use Rattle.std.specs.Prelude.{◌≡◌, ◌↔◌, ◌+◌, ◌<◌, ◌≤◌, ℕ, List, [], ◌∷◌, ◌++◌, length, map, codes, true, None, Some};
 ghost use Rattle.sb_text.specs.declared.token.Token.{Token};
-ghost use Rattle.std.specs.List.{AllPass};
+ghost use Rattle.std.specs.List.{AllPass, flat_map};
 ghost use Rattle.sb_text.specs.Front.{in_comment};
 ghost use Rattle.sb_text.specs.Tokens.{lexed};
 ghost use Rattle.sb_text.specs.Statements.{parts};
 ghost use Rattle.sb_text.specs.Refusal.{AreTokens};
-ghost use Rattle.spelling.specs.Lexemes.{Lexeme, Word, Number, Text, Symbol, IsStatements, lexemes_of, statements_in, equals, HasItem, Every};
-ghost use Rattle.spelling.specs.Cursors.{part_said, IsPartOf};
+ghost use Rattle.spelling.specs.Lexemes.{Lexeme, Word, Number, Text, Symbol, IsStatements, lexemes_of, statements_in, equals, joined_by, HasItem, Every};
+ghost use Rattle.spelling.specs.Cursors.{AreTokensOf, part_said, IsPartOf};
 ghost use Rattle.spelling.specs.Limits.{HasGreatNumber};
 ghost use Rattle.spelling.specs.Layout.{spaced, line, layout, commented, IsLexeme};
 ghost use Rattle.spelling.specs.Reading.{the_word, the_symbol, a_word, a_number, a_text};
@@ -28,8 +28,6 @@ ghost use Rattle.spelling.specs.ValueReading.{value_at, range_at, NoSquare};
 ghost use Rattle.spelling.specs.ConditionReading.{condition_at};
 ghost use Rattle.spelling.specs.Rules.{alternative_lexemes, IsAlternative, parameter_lexemes, SpellsStar, SpellsFormulaDef, formula_def_lexemes, rule_lexemes, SpellsRules, KeepsCounts};
 ghost use Rattle.spelling.specs.StarReading.{for_all_at, alternative_at, parameter_at, star_of};
-ghost use Rattle.spelling.specs.Rules.{SpellsStar, SpellsFormulaDef, formula_def_lexemes, rule_lexemes, SpellsRules, KeepsCounts};
-ghost use Rattle.spelling.specs.StarReading.{star_of};
 ghost use Rattle.spelling.specs.Flavours.{which_word, flavour_word};
 ghost use Rattle.spelling.specs.FormulaHeads.{FormulaHead, formula_head_at};
 ghost use Rattle.spelling.specs.Tiny.{tiny_lexemes, tiny_rules};
@@ -80,6 +78,11 @@ pub fn writing_goes_on()
     ensures no_lines { (w : Written) → lines w [] ≡ w }
     ensures more_lines { (w : Written) (statement : List Lexeme) (later : List (List Lexeme)) → lines w (statement ∷ later) ≡ lines (ended (puts w statement)) later }
     ensures append_lines { (w : Written) (early later : List (List Lexeme)) → lines w (early ++ later) ≡ lines (lines w early) later }
+{}
+
+/// Parts with a lexeme between two are the first, and then each later one behind that lexeme.
+pub fn joined_parts_go_on()
+    ensures { (between : Lexeme) (first : List Lexeme) (later : List (List Lexeme)) → joined_by between (first ∷ later) ≡ first ++ flat_map (λ part. between ∷ part) later }
 {}
 
 /// The layout of statements is read as these statements, thus also the layout of those of any text.
@@ -181,7 +184,6 @@ pub fn root_derivations_are_written()
 /// only column of the only table.
 pub fn smallest_texts_spell()
     ensures rules { (text : List ℕ) → IsStatements text tiny_lexemes → SpellsRules text tiny_rules }
-    ensures counts { KeepsCounts tiny_rules }
     ensures catalogue { (text : List ℕ) (s : SiteDef) (t : TablePart) → t.site ≡ s.name → HasItem t.columns → IsStatements text (catalogue_lexemes (Site s) ∷ catalogue_lexemes (Table t) ∷ [])
         → SpellsCatalogue text (record { sites = s ∷ []; tables = table_from 0 t ∷ []; indexes = [] }) }
     ensures query { (catalogue : Catalogue) (text : List ℕ) (t : TableDef) (c : ColumnDef) → catalogue.tables ≡ t ∷ [] → t.columns ≡ c ∷ [] → IsFree t.name
@@ -240,6 +242,13 @@ pub fn statements_are_parts()
     ensures said { (source : List ℕ) (tokens : List Token) → AreTokens source tokens → statements_in source ≡ map (part_said source) (parts tokens) }
     ensures tokens { (source : List ℕ) (tokens : List Token) → AreTokens source tokens → Every (IsPartOf source) (parts tokens) }
     ensures count { (source : List ℕ) (tokens : List Token) → AreTokens source tokens → length (parts tokens) ≤ length source }
+{}
+
+/// The tokens that stand in a text are its own, also where a byte begins none or brackets nest too deep, and so are those of its
+/// statements.
+pub fn texts_have_their_tokens()
+    ensures tokens { (source : List ℕ) → AreTokensOf source (lexed source).0 }
+    ensures parts { (source : List ℕ) → Every (IsPartOf source) (parts (lexed source).0) }
 {}
 
 /// Where a number beyond the greatest stands in the spelling of a formula with the fewest brackets, one stands in each.
