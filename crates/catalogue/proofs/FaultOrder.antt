@@ -1,19 +1,19 @@
 -- In which order the faults of a text are told apart.
-use Rattle.std.proofs.Common.{◌≡◌, ℕ, ◌+◌, ◌≤◌, List, [], ◌∷◌, ◌++◌, map, length, Option, Some, None, Err, refl, sym, ap, ◌∙◌, subst, arith}
+use Rattle.std.proofs.Common.{◌≡◌, ℕ, ◌+◌, ◌≤◌, List, [], map, length, Option, Some, None, Err, sym, ap, ◌∙◌, subst, arith}
 use Rattle.std.proofs.lemmas.List.{length-map}
 use Rattle.sb_text.specs.Refusal.{fault_of, IsFault}
 use Rattle.sb_text.specs.Tokens.{lexed}
 use Rattle.sb_text.specs.Statements.{parts}
-use Rattle.catalogue.proofs.Cut.{written_part}
 use Rattle.catalogue.proofs.OneFault.{same_statements}
 use Rattle.sb_text.specs.declared.token.TextFault.{TextFault}
 use Rattle.sb_text.specs.declared.token.TextFault.TheVariants as text_fault
 use Rattle.sb_text.proofs.Laws.{length-parts, length-lexed}
-use Rattle.spelling.specs.Lexemes.{MaybeEnded, ended, statements_in, Every}
-use Rattle.spelling.specs.Firsts.{FirstAt, NoneFrom, NoneHas}
+use Rattle.spelling.specs.Lexemes.{MaybeEnded, ended, statements_in}
+use Rattle.spelling.specs.Cursors.{part_said}
+use Rattle.spelling.specs.Firsts.{FirstAt, NoneHas}
 use Rattle.spelling.specs.FirstsCases.{none_first}
 use Rattle.spelling.specs.Syntax.{IsUnderstood, IsStrangeAt}
-use Rattle.spelling.specs.Catalogues.{CatalogueStatement, catalogue_lexemes, HasColumns, SpellsCatalogueStatement, catalogue_of}
+use Rattle.spelling.specs.Catalogues.{CatalogueStatement, catalogue_lexemes, SpellsCatalogueStatement, catalogue_of}
 use Rattle.catalogue.specs.declared.fault.CatFault.{CatFault}
 use Rattle.catalogue.specs.declared.fault.CatFault.TheVariants.{Lexical, TooDeep, Syntax, Unknown, Twice, Limit, Memory}
 use Rattle.catalogue.specs.Defined.{NamesUnknown, DefinesTwice}
@@ -21,15 +21,11 @@ use Rattle.catalogue.specs.Beyond.{IsBeyond}
 use Rattle.catalogue.specs.Faults.{SaysStatements, HasFault, fault_rank, IsAccepted, ReadsCatalogue}
 use Rattle.catalogue.specs.Judged.{of_tokens, AreClear, StatementsJudged}
 use Rattle.catalogue.specs.Statements.{StatementsRead}
+use Rattle.catalogue.proofs.Understood.{all_understood}
 use Rattle.star_model.specs.declared.catalogue.Catalogue.{Catalogue}
 use Rattle.star_model.specs.WellFormed.{WellFormedCatalogue}
 
 -- ---- a text that says statements has no strange one
-
-all_understood : (ss : List CatalogueStatement) → Every HasColumns ss → (before : List MaybeEnded)
-    → NoneFrom (λ _ s. IsUnderstood SpellsCatalogueStatement s → ⊥) before (map ended (map catalogue_lexemes ss))
-all_understood [] every before = tt
-all_understood (s ∷ ss) every before = (λ strange. strange (s, record { are = refl; columns = every.0 }), all_understood ss every.1 (before ++ ended (catalogue_lexemes s) ∷ []))
 
 not_strange : (text : List ℕ) (ss : List CatalogueStatement) (k : ℕ) → SaysStatements text ss → IsStrangeAt SpellsCatalogueStatement text k → ⊥
 not_strange text ss k says strange =
@@ -167,7 +163,7 @@ few_statements text ss says =
     let all = ap (λ (l : List MaybeEnded). length l) says.are.are in
     omega (
       arith,
-      length-map (parts (lexed text).0) (written_part text),
+      length-map (parts (lexed text).0) (part_said text),
       length-map (map catalogue_lexemes ss) ended,
       length-map ss catalogue_lexemes,
       all,

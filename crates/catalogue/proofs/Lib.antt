@@ -1,7 +1,6 @@
-mod Items
+mod Loops
 mod Spelled
 mod Understood
-mod Cut
 mod Printed
 mod FaultOrder
 mod PlaceLaws

@@ -15,9 +15,10 @@ use Rattle.sb_text.specs.Tokens.{lexed}
 use Rattle.sb_text.specs.declared.token.Token.{Token}
 use Rattle.sb_text.specs.declared.token.TokenKind.{TokenKind}
 use Rattle.sb_text.specs.declared.token.TokenKind.TheVariants as kind
-use Rattle.sb_text.proofs.Laws.{fault_of-accepted, tokens-parts}
+use Rattle.sb_text.proofs.Laws.{fault_of-accepted}
 use Rattle.spelling.specs.Lexemes.{Lexeme, Word, Number, Text, Symbol, MaybeEnded, ended, said, lexeme_of, lexemes_of, statements_in, IsStatements, Every}
-use Rattle.catalogue.proofs.Cut.{written_part, IsPart, each_of, every_of}
+use Rattle.spelling.specs.Cursors.{part_said, IsPartOf}
+use Rattle.spelling.proofs.Laws.{own_parts}
 
 -- ---- which lexemes open a bracket
 
@@ -113,13 +114,13 @@ record ArePartsShallow (list : List Part) : Type 0 where
   short : All (λ (part : Part). length (tokens_of part) ≤ 4096) list
   shallow : All (λ (part : Part). greatest_depth 0 (tokens_of part) ≤ 32) list
 
-parts_shallow : (text : List ℕ) (list : List Part) (statements : List (List Lexeme)) → Every (IsPart text) list → map (written_part text) list ≡ map ended statements → Every IsShallow statements
+parts_shallow : (text : List ℕ) (list : List Part) (statements : List (List Lexeme)) → Every (IsPartOf text) list → map (part_said text) list ≡ map ended statements → Every IsShallow statements
     → ArePartsShallow list
 parts_shallow text [] statements every are shallow = record { short = λ k d less. absurd (omega arith); shallow = λ k d less. absurd (omega arith) }
 parts_shallow text (part ∷ list) [] every are shallow = absurd cc
 parts_shallow text (part ∷ list) (s ∷ statements) every are shallow =
-    let first : written_part text part ≡ ended s = cc in
-    let later : map (written_part text) list ≡ map ended statements = cc in
+    let first : part_said text part ≡ ended s = cc in
+    let later : map (part_said text) list ≡ map ended statements = cc in
     let lexemes : lexemes_of text part.0 ≡ s = ap (λ (m : MaybeEnded). m.0) first in
     let others = parts_shallow text list statements every.1 later shallow.1 in
     let size = ap (λ (l : List Lexeme). length l) lexemes in
@@ -133,7 +134,5 @@ parts_shallow text (part ∷ list) (s ∷ statements) every are shallow =
 pub no_deep_fault : (text : List ℕ) (statements : List (List Lexeme)) → IsStatements text statements → Every IsShallow statements → fault_of text ≡ None
 unfolding statements_in
 no_deep_fault text statements are shallow =
-    let list = parts (lexed text).0 in
-    let every = each_of text list (every_of (λ part. All (IsTokenOf text) (tokens_of part)) list (tokens-parts text)) in
-    let parts_are = parts_shallow text list statements every are.are shallow in
+    let parts_are = parts_shallow text (parts (lexed text).0) statements (own_parts text) are.are shallow in
     (fault_of-accepted text).1 (record { whole = are.all_tokens; short = parts_are.short; shallow = parts_are.shallow })

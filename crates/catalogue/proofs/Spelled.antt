@@ -1,15 +1,15 @@
 -- What is read is spelled.
-use Rattle.std.proofs.Common.{◌≡◌, ℕ, Bool, true, false, List, [], ◌∷◌, ◌++◌, length, map, Option, Some, None, refl, ap, sym, ◌∙◌, append_assoc, codes, arith, subst}
-use Prim.Native.Nat.{zero, suc}
+use Rattle.std.proofs.Common.{◌≡◌, ℕ, Bool, true, false, List, [], ◌∷◌, ◌++◌, map, Option, Some, refl, ap, sym, ◌∙◌, append_assoc, codes, subst}
 use Rattle.std.proofs.lemmas.Option.{some_pair_parts}
-use Rattle.std.specs.Option.{option_map}
 use Rattle.star_model.specs.declared.catalogue.ColType.{ColType}
 use Rattle.star_model.specs.declared.catalogue.ColType.TheVariants as type
 use Rattle.star_model.specs.Vectors.{same_numbers}
-use Rattle.spelling.specs.Lexemes.{Lexeme, Word, Number, Text, comma, left_bracket, right_bracket, joined_by, bracketed, HasItem}
+use Rattle.spelling.specs.Lexemes.{Lexeme, Word, Number, Text, comma, left_bracket, right_bracket, joined_by, bracketed, HasItem, Every}
 use Rattle.spelling.specs.Catalogues as statement
 use Rattle.spelling.specs.Catalogues.{CatalogueStatement, column_lexemes, name_lexemes, catalogue_lexemes, type_word, HasColumns}
-use Rattle.spelling.specs.Reading.{Reader, ◌>>=◌, pure, the_word, the_symbol, a_word, a_number, a_text}
+use Rattle.spelling.specs.Reading.{Reader, ◌>>=◌, pure, given, the_word, the_symbol, a_word, a_number, a_text}
+use Rattle.spelling.specs.ReadingCases.{given_reads}
+use Rattle.spelling.specs.SeriesReadingCases.{Spells, series_spelled}
 use Rattle.spelling.proofs.Laws.{same_are, the_word_reads, the_symbol_reads, a_word_reads, a_number_reads, a_text_reads, then_reads}
 use Rattle.catalogue.specs.declared.words.SiteWords.{SiteWords}
 use Rattle.catalogue.specs.declared.words.ColumnWords.{ColumnWords}
@@ -18,18 +18,14 @@ use Rattle.catalogue.specs.declared.words.IndexWords.{IndexWords}
 use Rattle.catalogue.specs.declared.words.StatementWords.{StatementWords}
 use Rattle.catalogue.specs.declared.words.StatementWords.TheVariants.{Site, Table, Index}
 use Rattle.catalogue.specs.Words.{site_of, column_of, table_of, index_of, said}
-use Rattle.catalogue.specs.Reading.{items_at, items_within, then_later, and_later, site_at, type_named, given, column_at, table_at, index_at, behind, statement_at}
-use Rattle.catalogue.proofs.Items.{Shrinks}
+use Rattle.catalogue.specs.Reading.{items_at, site_at, type_named, column_at, table_at, index_at, behind, statement_at}
 
 -- what a reader reads stands at the front, as it is spelled
 abbrev pub Sound : {A : Type 0} → Reader A → (A → List Lexeme) → Type 0
-Sound {A} read spell = (lexemes rest : List Lexeme) (x : A) → read lexemes ≡ Some (x, rest) → lexemes ≡ spell x ++ rest
+Sound read spell = Spells read spell (λ _. Unit {0})
 
 pub name_spelled : Sound a_word name_lexemes
-name_spelled lexemes rest name read = (a_word_reads lexemes rest name).0 read
-
-pub name_shrinks : Shrinks a_word
-name_shrinks lexemes rest name read = let is = ap (λ (l : List Lexeme). length l) (name_spelled lexemes rest name read) in omega (arith, is)
+name_spelled lexemes name rest read = ((a_word_reads lexemes rest name).0 read, tt)
 
 -- ---- columns
 
@@ -50,18 +46,14 @@ type_is word kind named = at_tests (same_numbers word (codes "int")) (same_numbe
     at_tests false false first second = let none = rw (first, second) at named in absurd cc
 
 given_same : (word : List ℕ) (kind : ColType) (lexemes left : List Lexeme) → given (type_named word) lexemes ≡ Some (kind, left) → (word ≡ type_word kind) × (lexemes ≡ left)
-given_same word kind lexemes left read = at (type_named word) refl read
-  where
-    at : (found : Option ColType) → type_named word ≡ found → option_map {U = ColType × List Lexeme} (λ x. (x, lexemes)) found ≡ Some (kind, left) → (word ≡ type_word kind) × (lexemes ≡ left)
-    at None named e = absurd cc
-    at (Some k) named e = let parts = some_pair_parts k kind lexemes left e in (type_is word kind (named ∙ ap (λ x. Some x) parts.0), parts.1)
+given_same word kind lexemes left read = let parts = given_reads (type_named word) lexemes kind left read in (type_is word kind parts.0, parts.1)
 
 abbrev pub spelled_column : ColumnWords → List Lexeme
 spelled_column c = column_lexemes (column_of c)
 
 pub column_spelled : Sound column_at spelled_column
 unfolding column_at
-column_spelled l0 rest c read =
+column_spelled l0 c rest read =
     then_reads a_word _ l0 c rest read (λ name l1 e1 read1.
     then_reads a_word _ l1 c rest read1 (λ word l2 e2 read2.
     then_reads (given (type_named word)) _ l2 c rest read2 (λ kind l3 e3 read3.
@@ -69,72 +61,21 @@ column_spelled l0 rest c read =
     then_reads a_number _ l4 c rest read4 (λ width l5 e5 read5.
     then_reads (the_word (codes "distinct")) _ l5 c rest read5 (λ _ l6 e6 read6.
     then_reads a_number _ l6 c rest read6 (λ distinct l7 e7 read7.
-    let «end» = some_pair_parts _ c l7 rest read7 in
-    (a_word_reads l0 l1 name).0 e1
-    ∙ ap (λ l. Word name ∷ l) ((a_word_reads l1 l2 word).0 e2 ∙ ap (λ l. Word word ∷ l) (given_same word kind l2 l3 e3).1 ∙ ap (λ b. Word b ∷ l3) (given_same word kind l2 l3 e3).0
-    ∙ ap (λ l. Word (type_word kind) ∷ l) ((the_word_reads (codes "width") l3 l4).0 e4
-    ∙ ap (λ l. Word (codes "width") ∷ l) ((a_number_reads l4 l5 width).0 e5
-    ∙ ap (λ l. Number width ∷ l) ((the_word_reads (codes "distinct") l5 l6).0 e6
-    ∙ ap (λ l. Word (codes "distinct") ∷ l) ((a_number_reads l6 l7 distinct).0 e7)))))
-    ∙ ap (λ (p : ColumnWords). spelled_column p ++ l7) «end».0 ∙ ap (λ l. spelled_column c ++ l) «end».1)))))))
+    let «end» = some_pair_parts _ c l7 rest read7 in (
+      (a_word_reads l0 l1 name).0 e1
+          ∙ ap (λ l. Word name ∷ l) ((a_word_reads l1 l2 word).0 e2 ∙ ap (λ l. Word word ∷ l) (given_same word kind l2 l3 e3).1 ∙ ap (λ b. Word b ∷ l3) (given_same word kind l2 l3 e3).0
+          ∙ ap (λ l. Word (type_word kind) ∷ l) ((the_word_reads (codes "width") l3 l4).0 e4
+          ∙ ap (λ l. Word (codes "width") ∷ l) ((a_number_reads l4 l5 width).0 e5
+          ∙ ap (λ l. Number width ∷ l) ((the_word_reads (codes "distinct") l5 l6).0 e6
+          ∙ ap (λ l. Word (codes "distinct") ∷ l) ((a_number_reads l6 l7 distinct).0 e7)))))
+          ∙ ap (λ (p : ColumnWords). spelled_column p ++ l7) «end».0 ∙ ap (λ l. spelled_column c ++ l) «end».1,
+      tt,
+    ))))))))
 
-pub column_shrinks : Shrinks column_at
-column_shrinks lexemes rest c read = let is = ap (λ (l : List Lexeme). length l) (column_spelled lexemes rest c read) in omega (arith, is)
-
--- ---- lists
-
-abbrev pub spelled_list : {A : Type 0} → (A → List Lexeme) → List A → List Lexeme
-spelled_list spell xs = joined_by comma (map spell xs)
-
-pub record AreSpelled {A : Type 0} (spell : A → List Lexeme) (lexemes rest : List Lexeme) (xs : List A) : Type 0 where
-  pub are : lexemes ≡ spelled_list spell xs ++ rest
-  pub some : HasItem xs
-
-abbrev Read : Type 0 → Type 0
-Read A = Option (A × List Lexeme)
-
--- what a reader of lists reads stands at the front
-abbrev SoundList : {A : Type 0} → Reader (List A) → (A → List Lexeme) → Type 0
-SoundList {A} read spell = (lexemes rest : List Lexeme) (xs : List A) → read lexemes ≡ Some (xs, rest) → AreSpelled spell lexemes rest xs
-
-one_spelled : {A : Type 0} (spell : A → List Lexeme) (lexemes left rest : List Lexeme) (x : A) (xs : List A) → lexemes ≡ spell x ++ left
-    → ◌≡◌ {A = Read (List A)} (Some (x ∷ [], left)) (Some (xs, rest)) → AreSpelled spell lexemes rest xs
-one_spelled spell lexemes left rest x xs is e =
-    let same = some_pair_parts (x ∷ []) xs left rest e in
-    subst (AreSpelled spell lexemes rest) same.0 (record { are = is ∙ ap (λ l. spell x ++ l) same.1; some = tt })
-
-more_spelled : {A : Type 0} (spell : A → List Lexeme) (lexemes later rest : List Lexeme) (x : A) (ys : List A) → lexemes ≡ spell x ++ comma ∷ later
-    → AreSpelled spell later rest ys → AreSpelled spell lexemes rest (x ∷ ys)
-more_spelled spell lexemes later rest x [] is are = absurd are.some
-more_spelled spell lexemes later rest x (y ∷ ys) is are = record {
-  are = is ∙ ap (λ l. spell x ++ comma ∷ l) are.are ∙ sym (append_assoc (spell x) (comma ∷ spelled_list spell (y ∷ ys)) rest);
-  some = tt;
-}
-
-step_spelled : {A : Type 0} (item : Reader A) (spell : A → List Lexeme) (later : Reader (List A)) → Sound item spell → SoundList later spell → SoundList (item >>= then_later later) spell
-step_spelled {A} item spell later sound others lexemes rest xs read =
-    then_reads item (then_later later) lexemes xs rest read (λ x left e more. at_comma x left (sound lexemes left x e) (the_symbol (codes ",") left) refl more)
-  where
-    at_later : (x : A) (found : List Lexeme) (items : Read (List A)) → lexemes ≡ spell x ++ comma ∷ found → later found ≡ items
-        → option_map {U = List A × List Lexeme} (λ i. (x ∷ i.0, i.1)) items ≡ Some (xs, rest) → AreSpelled spell lexemes rest xs
-    at_later x found None is e o = absurd cc
-    at_later x found (Some (ys, left)) is e o =
-        let same = some_pair_parts (x ∷ ys) xs left rest o in
-        subst (AreSpelled spell lexemes rest) same.0 (subst (λ r. AreSpelled spell lexemes r (x ∷ ys)) same.1 (more_spelled spell lexemes found left x ys is (others found left ys e)))
-
-    at_comma : (x : A) (left : List Lexeme) → lexemes ≡ spell x ++ left → (there : Read (Unit {0})) → the_symbol (codes ",") left ≡ there
-        → and_later x left later there ≡ Some (xs, rest) → AreSpelled spell lexemes rest xs
-    at_comma x left is None e o = one_spelled spell lexemes left rest x xs is o
-    at_comma x left is (Some (unit, found)) e o =
-        at_later x found (later found) (is ∙ ap (λ l. spell x ++ l) ((the_symbol_reads (codes ",") left found).0 e)) refl o
-
-within_spelled : {A : Type 0} (item : Reader A) (spell : A → List Lexeme) → Sound item spell → (n : ℕ) → SoundList (items_within item n) spell
-within_spelled item spell sound zero lexemes rest xs read = absurd cc
-within_spelled item spell sound (suc n) lexemes rest xs read = step_spelled item spell (items_within item n) sound (within_spelled item spell sound n) lexemes rest xs read
-
-items_spelled : {A : Type 0} (item : Reader A) (spell : A → List Lexeme) → Sound item spell → SoundList (items_at item) spell
+items_spelled : {A : Type 0} (item : Reader A) (spell : A → List Lexeme) → Sound item spell → (lexemes : List Lexeme) (xs : List A) (rest : List Lexeme)
+    → items_at item lexemes ≡ Some (xs, rest) → (lexemes ≡ joined_by comma (map spell xs) ++ rest) × HasItem xs × Every (λ _. Unit {0}) xs
 unfolding items_at
-items_spelled item spell sound lexemes rest xs read = within_spelled item spell sound (length lexemes) lexemes rest xs read
+items_spelled item spell sound = series_spelled item spell (λ _. Unit {0}) (the_symbol (codes ",")) comma (the_symbol_reads (codes ",")) sound
 
 -- ---- statements
 
@@ -147,7 +88,7 @@ abbrev SoundBehind : {A : Type 0} → List ℕ → Reader A → (A → Catalogue
 SoundBehind {A} word read say = (lexemes rest : List Lexeme) (x : A) → read lexemes ≡ Some (x, rest) → StandsBehind word lexemes rest (say x)
 
 -- where all was read, and `pure` gives it
-at_end : {A : Type 0} (word : List ℕ) (lexemes left rest : List Lexeme) (say : A → CatalogueStatement) (found x : A) → ◌≡◌ {A = Read A} (Some (found, left)) (Some (x, rest))
+at_end : {A : Type 0} (word : List ℕ) (lexemes left rest : List Lexeme) (say : A → CatalogueStatement) (found x : A) → ◌≡◌ {A = Option (A × List Lexeme)} (Some (found, left)) (Some (x, rest))
     → StandsBehind word lexemes left (say found) → StandsBehind word lexemes rest (say x)
 at_end {A} word lexemes left rest say found x read stands =
     let same = some_pair_parts found x left rest read in
@@ -200,7 +141,7 @@ table_spelled l0 rest t read =
     then_reads (the_symbol (codes "(")) _ l9 t rest read9 (λ _ l10 e10 read10.
     then_reads (items_at column_at) _ l10 t rest read10 (λ columns l11 e11 read11.
     then_reads (the_symbol (codes ")")) _ l11 t rest read11 (λ _ l12 e12 read12.
-    let list = items_spelled column_at spelled_column column_spelled l10 l11 columns e11 in
+    let list = items_spelled column_at spelled_column column_spelled l10 columns l11 e11 in
     let inside = joined_by comma (map column_lexemes (map column_of columns)) in
     at_end (codes "table") l0 l12 rest (λ (p : TableWords). statement.Table (table_of p)) _ t read12 (record {
       are = ap (λ l. Word (codes "table") ∷ l) ((a_word_reads l0 l1 name).0 e1
@@ -212,8 +153,8 @@ table_spelled l0 rest t read =
           ∙ ap (λ l. Word (codes "pages") ∷ l) ((a_number_reads l6 l7 pages).0 e7
           ∙ ap (λ l. Number pages ∷ l) ((the_word_reads (codes "file") l7 l8).0 e8
           ∙ ap (λ l. Word (codes "file") ∷ l) ((a_text_reads l8 l9 file).0 e9
-          ∙ ap (λ l. Text file ∷ l) (in_brackets l9 l10 l11 l12 inside e10 (list.are ∙ ap (λ l. joined_by comma l ++ l11) (columns_are columns)) e12))))))))));
-      columns = some_columns columns list.some;
+          ∙ ap (λ l. Text file ∷ l) (in_brackets l9 l10 l11 l12 inside e10 (list.0 ∙ ap (λ l. joined_by comma l ++ l11) (columns_are columns)) e12))))))))));
+      columns = some_columns columns list.1;
     })))))))))))))
 
 index_spelled : SoundBehind (codes "index") index_at (λ i. statement.Index (index_of i))
@@ -227,17 +168,17 @@ index_spelled l0 rest i read =
     then_reads (the_symbol (codes ")")) _ l5 i rest read5 (λ _ l6 e6 read6.
     then_reads (the_word (codes "pages")) _ l6 i rest read6 (λ _ l7 e7 read7.
     then_reads a_number _ l7 i rest read7 (λ pages l8 e8 read8.
-    let list = items_spelled a_word name_lexemes name_spelled l4 l5 columns e5 in
+    let list = items_spelled a_word name_lexemes name_spelled l4 columns l5 e5 in
     let inside = bracketed (joined_by comma (map name_lexemes columns)) in
     at_end (codes "index") l0 l8 rest (λ (p : IndexWords). statement.Index (index_of p)) _ i read8 (record {
       are = ap (λ l. Word (codes "index") ∷ l) ((a_word_reads l0 l1 name).0 e1
           ∙ ap (λ l. Word name ∷ l) ((the_word_reads (codes "on") l1 l2).0 e2
           ∙ ap (λ l. Word (codes "on") ∷ l) ((a_word_reads l2 l3 table).0 e3
-          ∙ ap (λ l. Word table ∷ l) (in_brackets l3 l4 l5 l6 (joined_by comma (map name_lexemes columns)) e4 list.are e6
+          ∙ ap (λ l. Word table ∷ l) (in_brackets l3 l4 l5 l6 (joined_by comma (map name_lexemes columns)) e4 list.0 e6
           ∙ ap (λ l. inside ++ l) ((the_word_reads (codes "pages") l6 l7).0 e7
           ∙ ap (λ l. Word (codes "pages") ∷ l) ((a_number_reads l7 l8 pages).0 e8))
           ∙ sym (append_assoc inside (Word (codes "pages") ∷ Number pages ∷ []) l8)))));
-      columns = list.some;
+      columns = list.1;
     })))))))))
 
 -- a statement behind its first word

@@ -1,13 +1,14 @@
 -- What is spelled is read, thus understood.
-use Rattle.std.proofs.Common.{◌≡◌, ◌+◌, ◌<◌, ◌≤◌, ℕ, List, [], ◌∷◌, ◌++◌, length, map, Option, Some, None, refl, ap, sym, ◌∙◌, append_assoc, codes, arith, subst, Ok, Err, true, false}
-use Prim.Native.Nat.{zero, suc}
-use Rattle.std.proofs.lemmas.List.{length-append, length-map, append-nil}
+use Rattle.std.proofs.Common.{◌≡◌, ◌+◌, ℕ, List, [], ◌∷◌, ◌++◌, length, map, Option, Some, None, refl, ap, sym, ◌∙◌, append_assoc, codes, arith, subst, Ok, Err, true, false}
+use Rattle.std.proofs.lemmas.List.{length-map, append-nil}
 use Rattle.std.proofs.lemmas.Option.{some_pair_parts}
 use Rattle.star_model.specs.declared.catalogue.ColType.{ColType}
 use Rattle.star_model.specs.declared.catalogue.ColType.TheVariants as type
 use Rattle.star_model.specs.declared.catalogue.ColumnDef.{ColumnDef}
 use Rattle.spelling.specs.Lexemes.{Lexeme, Word, Number, MaybeEnded, ended, statements_in, comma, right_bracket, joined_by, HasItem, Every}
-use Rattle.spelling.specs.Firsts.{FirstFrom}
+use Rattle.spelling.specs.Cursors.{part_said}
+use Rattle.spelling.specs.Firsts.{NoneFrom}
+use Rattle.spelling.specs.FirstsCases.{first_is_new, first_stays}
 use Rattle.spelling.specs.Syntax.{IsUnderstood, IsStrangeAt}
 use Rattle.spelling.specs.Catalogues.{CatalogueStatement, TablePart, IndexPart, column_lexemes, name_lexemes, catalogue_lexemes, type_word, HasColumns, SpellsCatalogueStatement}
 use Rattle.spelling.specs.Catalogues as statement
@@ -19,17 +20,18 @@ use Rattle.catalogue.specs.Words.{column_of, said}
 use Rattle.catalogue.specs.declared.statement.Unread.{Unread}
 use Rattle.catalogue.specs.declared.statement.Unread.TheVariants.{Strange, Memory}
 use Rattle.catalogue.specs.Statements.{StatementRead}
-use Rattle.catalogue.specs.Reading.{Answers, items_at, items_within, site_at, type_named, column_at, table_at, index_at, statement_at}
+use Rattle.catalogue.specs.Reading.{Answers, items_at, site_at, type_named, column_at, table_at, index_at, statement_at}
+use Rattle.spelling.specs.SeriesReadingCases.{IsRead, series_read}
+use Rattle.spelling.proofs.Laws.{the_symbol_reads}
 use Rattle.sb_text.specs.Statements.{Part}
-use Rattle.catalogue.proofs.Cut.{written_part}
 use Rattle.catalogue.proofs.Spelled.{statement_spelled}
 
 -- what is spelled at the front is read
 abbrev Complete : {A : Type 0} → Reader A → (A → List Lexeme) → Type 0
-Complete {A} read spell = (x : A) (rest : List Lexeme) → read (spell x ++ rest) ≡ Some (x, rest)
+Complete read spell = IsRead read spell (λ _. Unit {0}) (λ _. Unit {0})
 
 name_read : Complete a_word name_lexemes
-name_read name rest = refl
+name_read name rest _ _ = refl
 
 -- ---- the words of a statement
 
@@ -42,31 +44,19 @@ type_read type.Text = refl
 
 column_read : Complete column_at (λ c. column_lexemes (column_of c))
 unfolding column_at
-column_read c rest = rw (type_read c.kind) refl
+column_read c rest _ _ = rw (type_read c.kind) refl
 
 -- ---- lists
 
--- an item is spelled by something
-abbrev IsSome : {A : Type 0} → (A → List Lexeme) → Type 0
-IsSome {A} spell = (x : A) → 0 < length (spell x)
+anything : {A : Type 0} (xs : List A) → Every (λ _. Unit {0}) xs
+anything [] = tt
+anything (x ∷ xs) = (tt, anything xs)
 
-within_read : {A : Type 0} (item : Reader A) (spell : A → List Lexeme) → Complete item spell → IsSome spell → (xs : List A) (rest : List Lexeme) (n : ℕ) → HasItem xs
-    → the_symbol (codes ",") rest ≡ None → length (joined_by comma (map spell xs) ++ rest) ≤ n → items_within item n (joined_by comma (map spell xs) ++ rest) ≡ Some (xs, rest)
-within_read item spell complete some [] rest n h none room = absurd h
-within_read item spell complete some (x ∷ []) rest zero h none room = absurd (omega (arith, some x, room, length-append (spell x) rest))
-within_read item spell complete some (x ∷ []) rest (suc n) h none room = rw (complete x rest, none) refl
-within_read item spell complete some (x ∷ y ∷ xs) rest zero h none room =
-    absurd (omega (arith, some x, room, length-append (spell x ++ comma ∷ joined_by comma (map spell (y ∷ xs))) rest, length-append (spell x) (comma ∷ joined_by comma (map spell (y ∷ xs)))))
-within_read item spell complete some (x ∷ y ∷ xs) rest (suc n) h none room =
-    let later = joined_by comma (map spell (y ∷ xs)) in
-    let shape : (spell x ++ comma ∷ later) ++ rest ≡ spell x ++ (comma ∷ (later ++ rest)) = append_assoc (spell x) (comma ∷ later) rest in
-    let short : length (later ++ rest) ≤ n = omega (arith, room, ap (λ (l : List Lexeme). length l) shape, length-append (spell x) (comma ∷ (later ++ rest))) in
-    rw (shape, complete x (comma ∷ (later ++ rest))) (rw (within_read item spell complete some (y ∷ xs) rest n tt none short) refl)
-
-items_read : {A : Type 0} (item : Reader A) (spell : A → List Lexeme) → Complete item spell → IsSome spell → (xs : List A) (rest : List Lexeme) → HasItem xs
+items_read : {A : Type 0} (item : Reader A) (spell : A → List Lexeme) → Complete item spell → (xs : List A) (rest : List Lexeme) → HasItem xs
     → the_symbol (codes ",") rest ≡ None → items_at item (joined_by comma (map spell xs) ++ rest) ≡ Some (xs, rest)
 unfolding items_at
-items_read item spell complete some xs rest h none = within_read item spell complete some xs rest (length (joined_by comma (map spell xs) ++ rest)) h none (omega arith)
+items_read item spell complete xs rest some none =
+    series_read item spell (λ _. Unit {0}) (the_symbol (codes ",")) comma (the_symbol_reads (codes ",")) (λ _. Unit {0}) complete (λ _. tt) xs rest some (anything xs) tt none
 
 columns_back : (cs : List ColumnDef) → map column_of (map words_of_column cs) ≡ cs
 columns_back [] = refl
@@ -84,11 +74,11 @@ columns_read : (cs : List ColumnDef) (rest : List Lexeme) → HasItem cs
     → items_at column_at (joined_by comma (map column_lexemes cs) ++ right_bracket ∷ rest) ≡ Some (map words_of_column cs, right_bracket ∷ rest)
 columns_read cs rest some =
     subst (λ (l : List (List Lexeme)). items_at column_at (joined_by comma l ++ right_bracket ∷ rest) ≡ Some (map words_of_column cs, right_bracket ∷ rest)) (columns_spelled cs)
-    (items_read column_at (λ c. column_lexemes (column_of c)) column_read (λ c. omega arith) (map words_of_column cs) (right_bracket ∷ rest) (some_words cs some) refl)
+    (items_read column_at (λ c. column_lexemes (column_of c)) column_read (map words_of_column cs) (right_bracket ∷ rest) (some_words cs some) refl)
 
 names_read : (names : List (List ℕ)) (rest : List Lexeme) → HasItem names
     → items_at a_word (joined_by comma (map name_lexemes names) ++ right_bracket ∷ rest) ≡ Some (names, right_bracket ∷ rest)
-names_read names rest some = items_read a_word name_lexemes name_read (λ name. omega arith) names (right_bracket ∷ rest) some refl
+names_read names rest some = items_read a_word name_lexemes name_read names (right_bracket ∷ rest) some refl
 
 -- ---- statements
 
@@ -153,17 +143,20 @@ more_left statement rest words read some is =
 
 -- ---- all statements of a text
 
--- the statement behind others that are understood is the first that isn't
-pub first_strange : (statements : List CatalogueStatement) → Every HasColumns statements → (before later : List MaybeEnded) (this : MaybeEnded)
-    → (IsUnderstood SpellsCatalogueStatement this → ⊥)
-    → FirstFrom (λ _ s. IsUnderstood SpellsCatalogueStatement s → ⊥) before (map ended (map catalogue_lexemes statements) ++ this ∷ later) (suc (length statements))
-first_strange [] every before later this strange = strange
-first_strange (s ∷ statements) every before later this strange =
-    (λ un. un (s, record { are = refl; columns = every.0 }), first_strange statements every.1 (before ++ ended (catalogue_lexemes s) ∷ []) later this strange)
+abbrev IsStrange : List MaybeEnded → MaybeEnded → Type 0
+IsStrange before statement = IsUnderstood SpellsCatalogueStatement statement → ⊥
 
+pub all_understood : (ss : List CatalogueStatement) → Every HasColumns ss → (before : List MaybeEnded) → NoneFrom IsStrange before (map ended (map catalogue_lexemes ss))
+all_understood [] every before = tt
+all_understood (s ∷ ss) every before = (λ strange. strange (s, record { are = refl; columns = every.0 }), all_understood ss every.1 (before ++ ended (catalogue_lexemes s) ∷ []))
+
+-- the statement behind others that are understood is the first that isn't
 pub strange_at : (source : List ℕ) (list : List StatementWords) (this : Part) (left later : List Part) (number : ℕ)
-    → statements_in source ≡ map ended (map catalogue_lexemes (map said list)) ++ map (written_part source) left → left ≡ this ∷ later
-    → Every HasColumns (map said list) → number ≡ length list + 1 → (IsUnderstood SpellsCatalogueStatement (written_part source this) → ⊥) → IsStrangeAt SpellsCatalogueStatement source number
+    → statements_in source ≡ map ended (map catalogue_lexemes (map said list)) ++ map (part_said source) left → left ≡ this ∷ later
+    → Every HasColumns (map said list) → number ≡ length list + 1 → (IsUnderstood SpellsCatalogueStatement (part_said source this) → ⊥) → IsStrangeAt SpellsCatalogueStatement source number
 strange_at source list this left later number read cut columns is strange =
-    let place : number ≡ suc (length (map said list)) = omega (arith, is, length-map list said) in
-    rw (place, read, cut) (first_strange (map said list) columns [] (map (written_part source) later) (written_part source this) strange)
+    let front = map ended (map catalogue_lexemes (map said list)) in
+    let place : number ≡ length front + 1 = omega (arith, is, length-map list said, length-map (map said list) catalogue_lexemes, length-map (map catalogue_lexemes (map said list)) ended) in
+    let first = first_is_new IsStrange front (part_said source this) (all_understood (map said list) columns []) strange in
+    let behind = first_stays IsStrange (front ++ part_said source this ∷ []) (map (part_said source) later) (length front + 1) first in
+    rw (place, read, cut) (rw append_assoc at behind)

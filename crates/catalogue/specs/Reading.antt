@@ -1,11 +1,11 @@
 -- How the statements of a catalogue are read, from the front of a list of lexemes.
-use Rattle.std.specs.Prelude.{◌≡◌, ℕ, List, [], ◌∷◌, length, Option, Some, None, option_map, codes, if◌then◌else◌, Result, Ok, Err}
-use Prim.Native.Nat.{zero, suc}
+use Rattle.std.specs.Prelude.{◌≡◌, ℕ, List, Option, Some, None, codes, if◌then◌else◌, Result, Ok, Err}
 use Rattle.star_model.specs.declared.catalogue.ColType.{ColType}
 use Rattle.star_model.specs.declared.catalogue.ColType.TheVariants as type
 use Rattle.star_model.specs.Vectors.{same_numbers}
 use Rattle.spelling.specs.Lexemes.{Lexeme}
-use Rattle.spelling.specs.Reading.{Reader, ◌>>=◌, ◌>>◌, pure, the_word, the_symbol, a_word, a_number, a_text}
+use Rattle.spelling.specs.Reading.{Reader, ◌>>=◌, ◌>>◌, pure, given, the_word, the_symbol, a_word, a_number, a_text}
+use Rattle.spelling.specs.SeriesReading.{series}
 use Rattle.catalogue.specs.declared.words.SiteWords.{SiteWords}
 use Rattle.catalogue.specs.declared.words.ColumnWords.{ColumnWords}
 use Rattle.catalogue.specs.declared.words.TableWords.{TableWords}
@@ -21,23 +21,9 @@ Answers read (Ok x) rest = read ≡ Some (x, rest)
 Answers read (Err Strange) rest = read ≡ None
 Answers read (Err Memory) rest = Unit {0}
 
--- ---- lists
-
--- the item, and behind a comma the later ones
-abbrev pub and_later : {A : Type 0} → A → List Lexeme → Reader (List A) → Option (Unit {0} × List Lexeme) → Option (List A × List Lexeme)
-and_later x left later None = Some (x ∷ [], left)
-and_later x left later (Some found) = option_map (λ items. (x ∷ items.0, items.1)) (later found.1)
-
-abbrev pub then_later : {A : Type 0} → Reader (List A) → A → Reader (List A)
-then_later later x = λ lexemes. and_later x lexemes later (the_symbol (codes ",") lexemes)
-
--- one or more items, at most so many, with a comma between two
-abbrev pub items_within : {A : Type 0} → Reader A → ℕ → Reader (List A)
-items_within item zero = λ lexemes. None
-items_within item (suc n) = item >>= then_later (items_within item n)
-
+-- one or more items, with a comma between two
 unfoldable pub items_at : {A : Type 0} → Reader A → Reader (List A)
-items_at item = λ lexemes. items_within item (length lexemes) lexemes
+items_at item = series item (the_symbol (codes ","))
 
 -- ---- the three statements, behind their first words
 
@@ -54,9 +40,6 @@ site_at = do
 abbrev pub type_named : List ℕ → Option ColType
 type_named word =
     if same_numbers word (codes "int") then Some type.Int else if same_numbers word (codes "text") then Some type.Text else None
-
-abbrev pub given : {A : Type 0} → Option A → Reader A
-given found = λ lexemes. option_map (λ x. (x, lexemes)) found
 
 unfoldable pub column_at : Reader ColumnWords
 column_at = do

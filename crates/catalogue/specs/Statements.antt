@@ -1,7 +1,6 @@
 -- What the reading of statements answers.
 use Rattle.std.specs.Prelude.{◌≡◌, ℕ, List, Result, Ok, Err, map}
-use Rattle.sb_text.specs.declared.statement.Statement.{Statement}
-use Rattle.spelling.specs.Lexemes.{MaybeEnded, ended, lexemes_of}
+use Rattle.spelling.specs.Lexemes.{MaybeEnded, ended}
 use Rattle.spelling.specs.Syntax.{IsUnderstood, IsStrangeAt}
 use Rattle.spelling.specs.Catalogues.{HasColumns, catalogue_lexemes, SpellsCatalogueStatement}
 use Rattle.catalogue.specs.declared.words.StatementWords.{StatementWords}
@@ -11,10 +10,6 @@ use Rattle.catalogue.specs.declared.fault.CatFault.{CatFault}
 use Rattle.catalogue.specs.declared.fault.CatFault.TheVariants as fault
 use Rattle.catalogue.specs.Words.{said}
 use Rattle.catalogue.specs.Faults.{SaysStatements}
-
--- what a statement of the source has, and whether a `;` ends it
-abbrev pub written_in : List ℕ → Statement → MaybeEnded
-written_in source statement = (lexemes_of source statement.tokens.now, statement.ended)
 
 -- what the statement says, or that it isn't understood
 abbrev pub StatementRead : MaybeEnded → Result StatementWords Unread → Type 0

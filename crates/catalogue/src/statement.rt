@@ -2,8 +2,9 @@
 ghost use Rattle.std.specs.Prelude.{◌≡◌};
 ghost use Rattle.catalogue.specs.declared.statement.Unread.TheVariants.{Memory};
 ghost use Rattle.catalogue.specs.Reading.{Answers, items_at, site_at, type_named, column_at, table_at, index_at, statement_at};
-ghost use Rattle.catalogue.specs.Statements.{StatementRead, written_in};
-ghost use Rattle.spelling.specs.Cursors.{AreTokensOf};
+ghost use Rattle.catalogue.specs.Statements.{StatementRead};
+ghost use Rattle.sb_text.specs.Statements.{part_of};
+ghost use Rattle.spelling.specs.Cursors.{AreTokensOf, part_said};
 ghost use Rattle.spelling.specs.Reading.{a_word};
 
 use crate::words::{ColumnWords, IndexWords, SiteWords, StatementWords, TableWords};
@@ -166,7 +167,7 @@ pub fn read_statement(
     statement: &Statement<'_>,
 ) -> Result<StatementWords, Unread>
     requires { AreTokensOf source.now statement.now.tokens.now }
-    ensures { StatementRead (written_in source.now statement.now) result }
+    ensures { StatementRead (part_said source.now (part_of statement.now)) result }
 {
     if !statement.ended {
         return Err(Unread::Strange);

@@ -4,6 +4,5 @@ mod AccessStar
 mod Root
 mod Only
 mod Parts
-mod WidthSums
 mod Planned
 pub mod Laws

@@ -9,7 +9,6 @@ mod small;
 mod stars;
 pub mod theorems;
 mod variables;
-mod widths;
 
 pub use least::{LeastPlan, least_plan};
 pub use small::is_small;

@@ -7,8 +7,7 @@ ghost use Rattle.star_model.specs.Predicates.{used};
 ghost use Rattle.heap_plan.specs.Small.{IsSmall};
 ghost use Rattle.heap_plan.specs.HeapAccess.{heap_vars};
 
-use crate::widths::width;
-use query_graph::{card, used};
+use query_graph::{card, used, width};
 use star_model::catalogue::{SiteDef, TableDef};
 use star_model::formula::Vars;
 use star_model::num::Num;

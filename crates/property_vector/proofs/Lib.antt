@@ -1,3 +1,2 @@
-mod Prefixes
 mod Antisymmetry
 pub mod Laws

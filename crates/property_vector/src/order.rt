@@ -1,17 +1,9 @@
 // The order of vectors.
 
 ghost use Rattle.std.specs.Prelude.{◌≡◌};
-ghost use Rattle.star_model.specs.Vectors.{begins, same_relation, is_better};
+ghost use Rattle.star_model.specs.Vectors.{same_relation, is_better};
 
-use star_model::columns::Col;
 use star_model::plans::Props;
-
-// Whether the first list is a prefix of the second.
-pub fn begins(prefix: &[Col], columns: &[Col]) -> bool
-    ensures { result ≡ begins prefix.now columns.now }
-{
-    columns.starts_with(prefix)
-}
 
 fn have_same_relation(v: &Props, w: &Props) -> bool
     ensures { result ≡ same_relation v.now w.now }
@@ -31,7 +23,7 @@ pub fn better(v: &Props, w: &Props) -> bool
         && v.site == w.site
         && v.cost <= w.cost
         && v.rescan <= w.rescan
-        && begins(w.order.as_slice(), v.order.as_slice())
-        && begins(w.path.as_slice(), v.path.as_slice())
+        && v.order.begins_with(&w.order)
+        && v.path.begins_with(&w.path)
         && (!w.temp || v.temp)
 }

@@ -3,7 +3,6 @@
 ghost use Rattle.std.specs.Prelude.{◌≡◌};
 ghost use Rattle.star_model.specs.Vectors.{is_at, satisfies};
 
-use crate::order::begins;
 use star_model::columns::Site;
 use star_model::plans::{Props, Require};
 
@@ -21,8 +20,8 @@ fn is_at(wanted: Option<Site>, site: Site) -> bool
 pub fn satisfies(v: &Props, require: &Require) -> bool
     ensures { result ≡ satisfies v.now require.now }
 {
-    begins(require.order.as_slice(), v.order.as_slice())
+    v.order.begins_with(&require.order)
         && is_at(require.site, v.site)
         && (!require.temp || v.temp)
-        && begins(require.path.as_slice(), v.path.as_slice())
+        && v.path.begins_with(&require.path)
 }

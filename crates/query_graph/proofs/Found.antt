@@ -4,6 +4,7 @@ use Prim.Native.Nat.{zero, suc}
 use Rattle.std.specs.List.{list_any, list_all, position_from}
 use Rattle.std.specs.Option.{option_and_then, option_map}
 use Rattle.std.proofs.lemmas.Bool.{and_parts, and_from, or_cases, not-true}
+use Rattle.std.proofs.lemmas.Option.{slice_get-map}
 use Rattle.star_model.specs.Vectors.{same_numbers}
 use Rattle.star_model.specs.WellFormed.{differ}
 use Rattle.spelling.specs.Lexemes.{Every}
@@ -41,9 +42,7 @@ all_at test (y ∷ ys) zero x all is = ap test (sym (some_same y x is)) ∙ (and
 all_at test (y ∷ ys) (suc n) x all is = all_at test ys n x (and_parts (test y) (list_all test ys) all).1 is
 
 pub get_map : {A B : Type 0} (f : A → B) (xs : List A) (n : ℕ) (x : A) → slice_get xs n ≡ Some x → slice_get (map f xs) n ≡ Some (f x)
-get_map f [] n x is = absurd cc
-get_map f (y ∷ ys) zero x is = ap (λ z. Some (f z)) (some_same y x is)
-get_map f (y ∷ ys) (suc n) x is = get_map f ys n x is
+get_map f xs n x is = slice_get-map f xs n ∙ ap (option_map f) is
 
 -- the first of names that differ is found where it stands
 place_from : (names : List (List ℕ)) (name wanted : List ℕ) (from n : ℕ) → differ same_numbers names ≡ true → slice_get names n ≡ Some name → same_numbers wanted name ≡ true

@@ -3,8 +3,6 @@ mod Places
 mod Inserting
 mod UnknownNames
 mod Repeats
-pub mod Steps
-pub mod SeriesLaws
 pub mod Loops
 pub mod PartsSpelled
 pub mod PartsRead
@@ -16,7 +14,7 @@ mod Formed
 mod Resolving
 pub mod StatementLaws
 pub mod Laws
-pub mod CardinalityLaws
+pub mod MemberWalks
 pub mod GatheringLaws
 pub mod UsedLaws
 mod Found
@@ -26,3 +24,6 @@ mod FaultLaws
 mod Judging
 mod GoodQuery
 mod Clear
+mod OnlyMembers
+mod KeyWalks
+mod WidthSums

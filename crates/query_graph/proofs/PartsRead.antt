@@ -1,14 +1,11 @@
 -- What spells a part of a query is read as it, where what follows doesn't belong to it.
-use Rattle.std.proofs.Common.{◌≡◌, ℕ, List, ◌∷◌, ◌++◌, Option, Some, None, refl, arith, codes}
+use Rattle.std.proofs.Common.{◌≡◌, ℕ, List, ◌∷◌, ◌++◌, Option, Some, None, refl}
 use Rattle.star_model.specs.declared.query.Cmp.{Cmp}
 use Rattle.star_model.specs.declared.query.Cmp.TheVariants as cmp
 use Rattle.spelling.specs.Lexemes.{Lexeme, Word, dot, comma}
 use Rattle.spelling.specs.Queries.{ColumnName, Item, Whole, Negative, Quoted, Side, OfColumn, OfConstant, Comparison, column_lexemes, own_name, item_lexemes, cmp_lexeme, side_lexemes, comparison_lexemes, IsFree, IsFreeIfAny, HasFreeQuantifier, HasFreeNames, IsFreeSide, ComparesFree}
-use Rattle.spelling.specs.Reading.{the_word, the_symbol}
-use Rattle.spelling.proofs.Laws.{the_word_reads, the_symbol_reads}
+use Rattle.spelling.specs.SeriesReadingCases.{IsRead}
 use Rattle.query_graph.specs.StatementReading.{free_word, column_at, own_name_at, item_at, cmp_at, negative_at, column_side_at, side_at, comparison_at}
-use Rattle.query_graph.proofs.SeriesLaws.{IsItem, IsSeparator}
-use Rattle.query_graph.proofs.PartsSpelled.{column_spelled, item_spelled, comparison_spelled}
 
 pub free_read : (name : List ℕ) (rest : List Lexeme) → IsFree name → free_word (Word name ∷ rest) ≡ Some (name, rest)
 unfolding free_word
@@ -58,33 +55,12 @@ comparison_read x rest is =
 abbrev pub Anything : List Lexeme → Type 0
 Anything rest = Unit {0}
 
-pub column_is : IsItem column_at column_lexemes HasFreeQuantifier Anything
-column_is = record {
-  spelled = column_spelled;
-  read = λ c rest good _. column_read c rest good;
-  some = λ c. omega arith;
-}
+pub column_is_read : IsRead column_at column_lexemes HasFreeQuantifier Anything
+column_is_read c rest good follows = column_read c rest good
 
-pub item_is : IsItem item_at item_lexemes HasFreeNames NoName
-item_is = record {
-  spelled = item_spelled;
-  read = item_read;
-  some = λ x. omega arith;
-}
+pub comparison_is_read : IsRead comparison_at comparison_lexemes ComparesFree Anything
+comparison_is_read x rest good follows = comparison_read x rest good
 
-pub comparison_is : IsItem comparison_at comparison_lexemes ComparesFree Anything
-comparison_is = record {
-  spelled = comparison_spelled;
-  read = λ x rest good _. comparison_read x rest good;
-  some = λ x. omega arith;
-}
-
-pub comma_is : IsSeparator (the_symbol (codes ",")) comma Anything
-comma_is = record { is = the_symbol_reads (codes ","); follows = λ rest. tt }
-
-pub comma_is_no_name : IsSeparator (the_symbol (codes ",")) comma NoName
+pub comma_is_no_name : (rest : List Lexeme) → NoName (comma ∷ rest)
 unfolding free_word
-comma_is_no_name = record { is = the_symbol_reads (codes ","); follows = λ rest. refl }
-
-pub and_is : IsSeparator (the_word (codes "and")) (Word (codes "and")) Anything
-and_is = record { is = the_word_reads (codes "and"); follows = λ rest. tt }
+comma_is_no_name rest = refl

@@ -8,9 +8,9 @@ use Rattle.spelling.specs.Lexemes.{Lexeme, Word, Number, Text, Symbol, dot}
 use Rattle.spelling.specs.Names.{is_among}
 use Rattle.spelling.specs.Queries.{ColumnName, Item, Whole, Negative, Quoted, Side, OfColumn, OfConstant, Comparison, column_lexemes, own_name, item_lexemes, cmp_lexeme, side_lexemes, comparison_lexemes, reserved_in_queries, IsFree, IsFreeIfAny, HasFreeQuantifier, HasFreeNames, IsFreeSide, ComparesFree}
 use Rattle.spelling.specs.Reading.{pure, the_symbol, a_word, a_number, a_text}
+use Rattle.spelling.specs.ReadingCases.{pass, choose}
 use Rattle.spelling.proofs.Laws.{then_reads, the_symbol_reads, a_word_reads, a_number_reads, a_text_reads}
 use Rattle.query_graph.specs.StatementReading.{free, free_word, column_at, own_name_at, item_at, cmp_at, negative_at, column_side_at, side_at, comparison_at}
-use Rattle.query_graph.proofs.Steps.{pass, choose}
 
 free_parts : (name : List ℕ) (lexemes : List Lexeme) (found : List ℕ) (rest : List Lexeme) → free name lexemes ≡ Some (found, rest) → IsFree name × (name ≡ found) × (lexemes ≡ rest)
 free_parts name lexemes found rest = at (is_among reserved_in_queries name) refl

@@ -3,22 +3,26 @@ use Rattle.std.proofs.Common.{◌≡◌, ℕ, List, [], ◌∷◌, ◌++◌, map
 use Rattle.spelling.specs.Lexemes.{Lexeme, Word, joined_by, comma, Every, HasItem}
 use Rattle.spelling.specs.Queries.{ColumnName, Item, Comparison, QueryStatement, column_lexemes, item_lexemes, comparison_lexemes, columns_lexemes, where_lexemes, order_lexemes, at_lexemes, query_lexemes, IsFreeIfAny, HasFreeQuantifier, HasFreeNames, ComparesFree, IsQueryStatement}
 use Rattle.spelling.specs.Reading.{the_word, the_symbol}
+use Rattle.spelling.specs.SeriesReadingCases.{series_read}
+use Rattle.spelling.proofs.Laws.{the_word_reads, the_symbol_reads}
 use Rattle.query_graph.specs.StatementReading.{free_word, column_at, columns_at, item_at, items_at, comparison_at, comparisons_at, where_at, order_at, site_at, query_at}
-use Rattle.query_graph.proofs.SeriesLaws.{series_read}
-use Rattle.query_graph.proofs.PartsRead.{Anything, NoName, free_read, column_is, item_is, comparison_is, comma_is, comma_is_no_name, and_is}
+use Rattle.query_graph.proofs.PartsRead.{Anything, NoName, free_read, column_is_read, item_read, comparison_is_read, comma_is_no_name}
 
 columns_read : (columns : List ColumnName) (rest : List Lexeme) → HasItem columns → Every HasFreeQuantifier columns → the_symbol (codes ",") rest ≡ None → columns_at (columns_lexemes columns ++ rest) ≡ Some (columns, rest)
 unfolding columns_at
-columns_read columns rest some good ends = series_read column_at column_lexemes HasFreeQuantifier Anything (the_symbol (codes ",")) comma column_is comma_is columns rest some good tt ends
+columns_read columns rest some good ends =
+    series_read column_at column_lexemes HasFreeQuantifier (the_symbol (codes ",")) comma (the_symbol_reads (codes ",")) Anything column_is_read (λ _. tt) columns rest some good tt ends
 
 items_read : (items : List Item) (rest : List Lexeme) → HasItem items → Every HasFreeNames items → NoName rest → the_symbol (codes ",") rest ≡ None → items_at (joined_by comma (map item_lexemes items) ++ rest) ≡ Some (items, rest)
 unfolding items_at
-items_read items rest some good none ends = series_read item_at item_lexemes HasFreeNames NoName (the_symbol (codes ",")) comma item_is comma_is_no_name items rest some good none ends
+items_read items rest some good none ends =
+    series_read item_at item_lexemes HasFreeNames (the_symbol (codes ",")) comma (the_symbol_reads (codes ",")) NoName item_read comma_is_no_name items rest some good none ends
 
 comparisons_read : (comparisons : List Comparison) (rest : List Lexeme) → HasItem comparisons → Every ComparesFree comparisons → the_word (codes "and") rest ≡ None
     → comparisons_at (joined_by (Word (codes "and")) (map comparison_lexemes comparisons) ++ rest) ≡ Some (comparisons, rest)
 unfolding comparisons_at
-comparisons_read comparisons rest some good ends = series_read comparison_at comparison_lexemes ComparesFree Anything (the_word (codes "and")) (Word (codes "and")) comparison_is and_is comparisons rest some good tt ends
+comparisons_read comparisons rest some good ends =
+    series_read comparison_at comparison_lexemes ComparesFree (the_word (codes "and")) (Word (codes "and")) (the_word_reads (codes "and")) Anything comparison_is_read (λ _. tt) comparisons rest some good tt ends
 
 -- ---- what follows a part
 

@@ -5,27 +5,27 @@ use Rattle.std.proofs.lemmas.Option.{some_pair_parts}
 use Rattle.spelling.specs.Lexemes.{Lexeme, Word, joined_by, comma, Every, HasItem}
 use Rattle.spelling.specs.Queries.{ColumnName, Item, Comparison, QueryStatement, column_lexemes, item_lexemes, comparison_lexemes, columns_lexemes, where_lexemes, order_lexemes, at_lexemes, IsFreeIfAny, HasFreeQuantifier, HasFreeNames, ComparesFree, SpellsQueryStatement}
 use Rattle.spelling.specs.Reading.{the_word, the_symbol}
-use Rattle.spelling.proofs.Laws.{then_reads, the_word_reads}
+use Rattle.spelling.specs.ReadingCases.{pass, choose}
+use Rattle.spelling.specs.SeriesReadingCases.{series_spelled}
+use Rattle.spelling.proofs.Laws.{then_reads, the_word_reads, the_symbol_reads}
 use Rattle.query_graph.specs.StatementReading.{free_word, column_at, columns_at, item_at, items_at, comparison_at, comparisons_at, where_at, order_at, site_at, query_at}
-use Rattle.query_graph.proofs.Steps.{pass, choose}
-use Rattle.query_graph.proofs.SeriesLaws.{series_spelled}
-use Rattle.query_graph.proofs.PartsSpelled.{free_spelled}
-use Rattle.query_graph.proofs.PartsRead.{Anything, NoName, column_is, item_is, comparison_is, comma_is, comma_is_no_name, and_is}
+use Rattle.query_graph.proofs.PartsSpelled.{free_spelled, column_spelled, item_spelled, comparison_spelled}
 
 columns_spelled : (lexemes : List Lexeme) (columns : List ColumnName) (rest : List Lexeme) → columns_at lexemes ≡ Some (columns, rest)
     → (lexemes ≡ columns_lexemes columns ++ rest) × HasItem columns × Every HasFreeQuantifier columns
 unfolding columns_at
-columns_spelled lexemes columns rest read = series_spelled column_at column_lexemes HasFreeQuantifier Anything (the_symbol (codes ",")) comma column_is comma_is lexemes columns rest read
+columns_spelled lexemes columns rest read = series_spelled column_at column_lexemes HasFreeQuantifier (the_symbol (codes ",")) comma (the_symbol_reads (codes ",")) column_spelled lexemes columns rest read
 
 items_spelled : (lexemes : List Lexeme) (items : List Item) (rest : List Lexeme) → items_at lexemes ≡ Some (items, rest)
     → (lexemes ≡ joined_by comma (map item_lexemes items) ++ rest) × HasItem items × Every HasFreeNames items
 unfolding items_at
-items_spelled lexemes items rest read = series_spelled item_at item_lexemes HasFreeNames NoName (the_symbol (codes ",")) comma item_is comma_is_no_name lexemes items rest read
+items_spelled lexemes items rest read = series_spelled item_at item_lexemes HasFreeNames (the_symbol (codes ",")) comma (the_symbol_reads (codes ",")) item_spelled lexemes items rest read
 
 comparisons_spelled : (lexemes : List Lexeme) (comparisons : List Comparison) (rest : List Lexeme) → comparisons_at lexemes ≡ Some (comparisons, rest)
     → (lexemes ≡ joined_by (Word (codes "and")) (map comparison_lexemes comparisons) ++ rest) × HasItem comparisons × Every ComparesFree comparisons
 unfolding comparisons_at
-comparisons_spelled lexemes comparisons rest read = series_spelled comparison_at comparison_lexemes ComparesFree Anything (the_word (codes "and")) (Word (codes "and")) comparison_is and_is lexemes comparisons rest read
+comparisons_spelled lexemes comparisons rest read =
+    series_spelled comparison_at comparison_lexemes ComparesFree (the_word (codes "and")) (Word (codes "and")) (the_word_reads (codes "and")) comparison_spelled lexemes comparisons rest read
 
 -- a clause that has items
 some_where : (comparisons : List Comparison) → HasItem comparisons → where_lexemes comparisons ≡ Word (codes "where") ∷ joined_by (Word (codes "and")) (map comparison_lexemes comparisons)

@@ -1,23 +1,22 @@
 -- What the first statements of a text come to, where the text is to be one query.
-use Rattle.std.proofs.Common.{◌≡◌, ℕ, true, false, List, [], ◌∷◌, map, Option, Some, None, refl, ap, sym, ◌∙◌, subst, inl, inr, arith, ◌⊎◌}
-use Rattle.std.specs.List.{All}
+use Rattle.std.proofs.Common.{◌≡◌, ℕ, true, false, List, [], ◌∷◌, map, Option, Some, None, refl, ap, sym, ◌∙◌, subst, inl, inr, ◌⊎◌}
 use Rattle.std.specs.Option.{is_some, MatchOption}
-use Rattle.std.proofs.lemmas.List.Elements.{All-tail}
 use Rattle.sb_text.specs.Refusal.{AreTokens}
-use Rattle.sb_text.specs.Tokens.{lexed, Lexed}
-use Rattle.sb_text.specs.Statements.{Part, tokens_of, parts, part_of}
-use Rattle.sb_text.specs.Reading.{IsTokenOf}
+use Rattle.sb_text.specs.Tokens.{Lexed}
+use Rattle.sb_text.specs.Statements.{Part, parts, part_of}
 use Rattle.sb_text.specs.declared.statement.Statement.{Statement}
 use Rattle.sb_text.specs.declared.token.Token.{Token}
-use Rattle.sb_text.proofs.Laws.{tokens-parts}
-use Rattle.spelling.specs.Lexemes.{Lexeme, MaybeEnded, Every, HasItem, ended, lexemes_of, statements_in}
-use Rattle.spelling.specs.Cursors.{AreTokensOf}
+use Rattle.spelling.specs.Lexemes.{MaybeEnded, Every, HasItem, ended, statements_in}
+use Rattle.spelling.specs.Cursors.{AreTokensOf, part_said, IsPartOf}
+use Rattle.spelling.specs.ReadingCases.{only_reads}
 use Rattle.spelling.specs.Syntax.{IsUnderstood}
 use Rattle.spelling.specs.Firsts.{FirstAt}
 use Rattle.spelling.specs.FirstsCases.{one_first, none_first}
 use Prim.Native.Nat.{zero, suc}
 use Rattle.spelling.specs.Queries.{QueryStatement, query_lexemes, IsQueryStatement, SpellsQueryStatement}
-use Rattle.query_graph.specs.StatementReading.{only, query_at, statement_at}
+use Rattle.spelling.specs.Reading.{only}
+use Rattle.spelling.proofs.Laws.{parts_said, parts_hold}
+use Rattle.query_graph.specs.StatementReading.{query_at, statement_at}
 use Rattle.query_graph.specs.Syntax.{IsStrangeQueryAt}
 use Rattle.query_graph.specs.Faults.{Says}
 use Rattle.query_graph.proofs.QuerySpelled.{query_spelled}
@@ -28,15 +27,9 @@ use Rattle.query_graph.proofs.QueryRead.{query_read}
 -- what is read as a query is understood
 read_spells : (s : MaybeEnded) (q : QueryStatement) → statement_at s ≡ Some q → (s ≡ ended (query_lexemes q)) × IsQueryStatement q
 unfolding statement_at
-read_spells (lexemes, true) q read = at (query_at lexemes) refl read
-  where
-    at : (found : Option (QueryStatement × List Lexeme)) → query_at lexemes ≡ found → only found ≡ Some q → ((lexemes, true) ≡ ended (query_lexemes q)) × IsQueryStatement q
-    at None is end = absurd cc
-    at (Some (found, [])) is end =
-        let same : found ≡ q = cc in
-        let spells = query_spelled lexemes q (is ∙ ap (λ x. Some (x, [])) same) in
-        (ap ended spells.are, spells.stands)
-    at (Some (found, lexeme ∷ later)) is end = absurd cc
+read_spells (lexemes, true) q read =
+    let spells = query_spelled lexemes q (only_reads (query_at lexemes) q read) in
+    (ap ended spells.are, spells.stands)
 read_spells (lexemes, false) q read = absurd cc
 
 -- what is understood is read as a query
@@ -53,22 +46,11 @@ understood q stands = (q, record { are = refl; stands = stands })
 
 -- ---- the statements of a text
 
-abbrev said_part : List ℕ → Part → MaybeEnded
-said_part text part = (lexemes_of text part.0, part.1)
-
-statements_are : (text : List ℕ) (tokens : List Token) (list : List Part) → AreTokens text tokens → parts tokens ≡ list → statements_in text ≡ map (said_part text) list
-unfolding statements_in
-statements_are text tokens list are is = ap (λ (l : Lexed). map (said_part text) (parts l.0)) are.lexed ∙ ap (map (said_part text)) is
-
-every_of : {A : Type 0} (P : A → Type 0) (xs : List A) → All P xs → Every P xs
-every_of P [] all = tt
-every_of P (x ∷ xs) all = (all 0 x (omega arith), every_of P xs (All-tail P x xs all))
+statements_are : (text : List ℕ) (tokens : List Token) (list : List Part) → AreTokens text tokens → parts tokens ≡ list → statements_in text ≡ map (part_said text) list
+statements_are text tokens list are is = parts_said text tokens are ∙ ap (map (part_said text)) is
 
 pub first_tokens : (text : List ℕ) (tokens : List Token) (part : Part) (later : List Part) → AreTokens text tokens → parts tokens ≡ part ∷ later → AreTokensOf text part.0
-first_tokens text tokens part later are is =
-    let list : parts (lexed text).0 ≡ part ∷ later = ap (λ (l : Lexed). parts l.0) are.lexed ∙ is in
-    let all : All (λ (p : Part). All (IsTokenOf text) (tokens_of p)) (part ∷ later) = subst (λ (l : List Part). All (λ (p : Part). All (IsTokenOf text) (tokens_of p)) l) list (tokens-parts text) in
-    every_of (IsTokenOf text) part.0 (all 0 part (omega arith))
+first_tokens text tokens part later are is = (subst (Every (IsPartOf text)) is (parts_hold text tokens are)).0
 
 -- ---- the verdicts
 
@@ -76,9 +58,9 @@ pub no_statement : (text : List ℕ) (tokens : List Token) → AreTokens text to
 no_statement text tokens are is = inl (statements_are text tokens [] are is, refl)
 
 pub first_is_strange : (text : List ℕ) (tokens : List Token) (part : Part) (later : List Part) → AreTokens text tokens → parts tokens ≡ part ∷ later
-    → statement_at (lexemes_of text part.0, part.1) ≡ None → IsStrangeQueryAt text 1
+    → statement_at (part_said text part) ≡ None → IsStrangeQueryAt text 1
 first_is_strange text tokens part later are is none =
-    inr (rw (statements_are text tokens (part ∷ later) are is) (inr (not_understood (said_part text part) none)))
+    inr (rw (statements_are text tokens (part ∷ later) are is) (inr (not_understood (part_said text part) none)))
 
 -- whether a statement stands next
 abbrev Next : List Part → Option Statement → List Part → Type 0
@@ -86,10 +68,10 @@ Next left next later = MatchOption next ((left ≡ []) × (later ≡ [])) (λ s.
 
 pub second_is_strange : (text : List ℕ) (tokens : List Token) (part : Part) (left : List Part) (next : Option Statement) (later : List Part) (q : QueryStatement)
     → AreTokens text tokens → parts tokens ≡ part ∷ left → Next left next later → true ≡ is_some next
-    → statement_at (lexemes_of text part.0, part.1) ≡ Some q → IsStrangeQueryAt text 2
+    → statement_at (part_said text part) ≡ Some q → IsStrangeQueryAt text 2
 second_is_strange text tokens part left None later q are is second some read = absurd cc
 second_is_strange text tokens part left (Some s) later q are is second some read =
-    let spells = read_spells (said_part text part) q read in
+    let spells = read_spells (part_said text part) q read in
     inr (rw (statements_are text tokens (part ∷ part_of s ∷ later) are (is ∙ ap (λ l. part ∷ l) second), spells.0) (
       (λ strange. elim strange [ inl before ↦ before | inr not ↦ not (understood q spells.1) ]),
       inl tt,
@@ -97,10 +79,10 @@ second_is_strange text tokens part left (Some s) later q are is second some read
 
 pub only_statement : (text : List ℕ) (tokens : List Token) (part : Part) (left : List Part) (next : Option Statement) (later : List Part) (q : QueryStatement)
     → AreTokens text tokens → parts tokens ≡ part ∷ left → Next left next later → false ≡ is_some next
-    → statement_at (lexemes_of text part.0, part.1) ≡ Some q → Says text q
+    → statement_at (part_said text part) ≡ Some q → Says text q
 only_statement text tokens part left (Some s) later q are is second none read = absurd cc
 only_statement text tokens part left None later q are is second none read =
-    let spells = read_spells (said_part text part) q read in
+    let spells = read_spells (part_said text part) q read in
     record {
       are = record {
         all_tokens = ap (λ (l : Lexed). l.1) are.lexed;

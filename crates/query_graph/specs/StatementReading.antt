@@ -1,40 +1,16 @@
 -- How the statement of a query is read from the front of its lexemes.
-use Rattle.std.specs.Prelude.{◌≡◌, ℕ, true, false, List, [], ◌∷◌, ◌++◌, length, Option, Some, None, option_map, codes, if◌then◌else◌, Result, Ok, Err}
-use Prim.Native.Nat.{zero, suc}
+use Rattle.std.specs.Prelude.{◌≡◌, ℕ, true, false, List, [], Option, Some, None, codes, if◌then◌else◌, Result, Ok, Err}
 use Rattle.star_model.specs.declared.query.Cmp.{Cmp}
 use Rattle.star_model.specs.declared.query.Cmp.TheVariants as cmp
 use Rattle.spelling.specs.Lexemes.{Lexeme, MaybeEnded}
 use Rattle.spelling.specs.Names.{is_among}
 use Rattle.spelling.specs.Queries.{ColumnName, Item, Whole, Negative, Quoted, Side, OfColumn, OfConstant, Comparison, QueryStatement, reserved_in_queries}
-use Rattle.spelling.specs.Reading.{Reader, ◌>>=◌, ◌>>◌, pure, the_word, the_symbol, a_word, a_number, a_text}
+use Rattle.spelling.specs.Reading.{Reader, ◌>>=◌, ◌>>◌, pure, the_word, the_symbol, a_word, a_number, a_text, either, only}
+use Rattle.spelling.specs.SeriesReading.{series}
 use Rattle.query_graph.specs.declared.unread.Unread.{Unread}
 use Rattle.query_graph.specs.Words.{said}
 use Rattle.query_graph.specs.declared.words.QueryWords.{QueryWords}
 use Rattle.query_graph.specs.declared.unread.Unread.TheVariants.{Strange, Memory}
-
--- ---- choices and lists
-
-abbrev pub chosen : {A B : Type 0} → Option (A × List Lexeme) → (A → Reader B) → Reader B → Reader B
-chosen None next other lexemes = other lexemes
-chosen (Some found) next other lexemes = next found.0 found.1
-
--- where the first is there, what comes next behind it, and else the other
-abbrev pub either : {A B : Type 0} → Reader A → (A → Reader B) → Reader B → Reader B
-either first next other = λ lexemes. chosen (first lexemes) next other lexemes
-
--- behind these items
-abbrev pub with_front : {A : Type 0} → List A → Option (List A × List Lexeme) → Option (List A × List Lexeme)
-with_front front read = option_map (λ found. (front ++ found.0, found.1)) read
-
--- an item, and one more behind each separator, at most so many
-unfoldable pub at_most : {A : Type 0} → Reader A → Reader (Unit {0}) → ℕ → Reader (List A)
-at_most item separator zero lexemes = None
-at_most item separator (suc n) lexemes =
-    (item >>= λ x. either separator (λ _. λ left. with_front (x ∷ []) (at_most item separator n left)) (pure (x ∷ []))) lexemes
-
--- as many as there are
-abbrev pub series : {A : Type 0} → Reader A → Reader (Unit {0}) → Reader (List A)
-series item separator lexemes = at_most item separator (length lexemes) lexemes
 
 -- ---- the parts of a query
 
@@ -121,11 +97,6 @@ query_at = do
   order ← order_at
   site ← site_at
   pure (record { select = select; items = items; comparisons = comparisons; order = order; site = site })
-
-abbrev pub only : Option (QueryStatement × List Lexeme) → Option QueryStatement
-only None = None
-only (Some (q, [])) = Some q
-only (Some (q, lexeme ∷ later)) = None
 
 -- the query that a statement is, where nothing is left behind it
 unfoldable pub statement_at : MaybeEnded → Option QueryStatement

@@ -12,7 +12,7 @@ use star_model::query::{Cmp, Operand, Pred, Query};
 use star_model::sets::{PredSet, QuantSet};
 
 /// The estimated number of choices of one row for each quantifier of the set that make these predicates true.
-#[tactic(auto, using(crate::proofs::CardinalityLaws::member_rules), unfolding(star_model::specs::Cardinality::card))]
+#[tactic(auto, using(crate::proofs::MemberWalks::member_rules), unfolding(star_model::specs::Cardinality::card))]
 pub fn card(query: &Query, tables: QuantSet, preds: PredSet) -> Num
     requires { WellFormedQuery query.now }
     ensures { result ≡ card query.now tables preds }

@@ -2,12 +2,13 @@
 
 ghost use Rattle.std.specs.Prelude.{◌≡◌, true, not, ◌&&◌, fold};
 ghost use Rattle.std.specs.List.{list_all, flat_map};
+ghost use Rattle.star_model.specs.Meaning.{is_equality};
 ghost use Rattle.star_model.specs.Predicates.{columns_of, lies_in, touches, eligible, crossing, used};
 ghost use Rattle.star_model.specs.WellFormed.{WellFormedQuery};
 ghost use Rattle.query_graph.specs.UsedColumns.{has_place, adding};
 
 use star_model::columns::{Col, ColSet};
-use star_model::query::{Operand, Pred, Query};
+use star_model::query::{Cmp, Operand, Pred, Query};
 use star_model::sets::{PredSet, QuantSet};
 
 /// The predicates all of whose quantifiers are in the set.
@@ -77,6 +78,16 @@ pub fn touches(tables: QuantSet, pred: &Pred) -> bool
     match &pred.right {
         Operand::Column(right) => tables.has(pred.left.quant.0) || tables.has(right.quant.0),
         Operand::Constant(_) => tables.has(pred.left.quant.0),
+    }
+}
+
+/// Whether it is an equality of columns of two different quantifiers.
+pub fn is_equality(pred: &Pred) -> bool
+    ensures { result ≡ is_equality pred.now }
+{
+    match &pred.right {
+        Operand::Column(right) => pred.cmp == Cmp::Eq && pred.left.quant.0 != right.quant.0,
+        Operand::Constant(_) => false,
     }
 }
 

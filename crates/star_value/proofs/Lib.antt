@@ -1,9 +1,4 @@
 pub mod Passing
 pub mod Members
 pub mod Gathering
-pub mod Prefixes
-pub mod Keys
 pub mod RangeLaws
-pub mod StreamLaws
-pub mod MemberLaws
-pub mod Laws

@@ -1,4 +1,4 @@
--- The members of a set of quantifiers.
+-- The set of all quantifiers.
 use Rattle.std.proofs.Common.{◌≡◌, ℕ, ◌+◌, ◌<◌, Bool, true, false, ◌||◌, List, [], ◌∷◌, zero, suc, length, refl, sym, ◌∙◌, nat_lt, nat_eq, arith}
 use Rattle.std.specs.Prelude.{None, slice_get}
 use Rattle.std.specs.Option.{option_map_or}
@@ -8,28 +8,6 @@ use Rattle.star_model.specs.Meaning.{one_of, only_member}
 use Rattle.star_model.specs.declared.query.Query.{Query}
 use Rattle.star_model.specs.declared.query.QuantDef.{QuantDef}
 use Rattle.star_model.proofs.Laws.{has-zero, has-union, has-single, has-set_of, same_set, set_of-lt, union-lt, single-lt}
-
--- ---- the one member
-
-one_first : (ns : List ℕ) → length ns ≡ 1 → one_of ns ≡ slice_get ns 0
-one_first [] h = refl
-one_first (n ∷ []) h = refl
-one_first (n ∷ m ∷ ns) h = let never : ⊥ = omega (arith, h) in absurd never
-
-not_one : (ns : List ℕ) → (length ns ≡ 1 → ⊥) → one_of ns ≡ None
-not_one [] h = refl
-not_one (n ∷ []) h = absurd (h refl)
-not_one (n ∷ m ∷ ns) h = refl
-
-pub only_first : (s : ℕ) → size s ≡ 1 → only_member s ≡ slice_get (members s) 0
-only_first s h = one_first (members s) h
-
-pub only_none : (s : ℕ) → (size s ≡ 1 → ⊥) → only_member s ≡ None
-only_none s h = not_one (members s) h
-
-pub ruleset only_rules = (only_first, only_none)
-
--- ---- all quantifiers
 
 -- the first k numbers
 abbrev pub below : ℕ → ℕ

@@ -26,5 +26,3 @@ unfolding passing members places
 members_passing s = refl
 
 pub ruleset passing_rules = (passing_none, passing_same)
-
-pub ruleset member_rules = (members_passing, passing_none, passing_more, passing_same)

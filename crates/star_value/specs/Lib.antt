@@ -1,2 +1,1 @@
 pub mod RangeNumbers
-pub mod Streams

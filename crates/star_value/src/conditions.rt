@@ -1,14 +1,12 @@
 // Conditions of applicability.
 
 ghost use Rattle.std.specs.Prelude.{◌≡◌};
-ghost use Rattle.star_model.specs.Vectors.{begins};
 ghost use Rattle.star_model.specs.Meaning.{holds, is_empty_value, is_part, same_value};
 ghost use Rattle.star_model.specs.WellFormed.{WellFormedQuery};
 
 use crate::env::Env;
 use crate::readings::{cols_of, preds_of, quants_of};
 use crate::values::value;
-use star_model::columns::Col;
 use star_model::query::Query;
 use star_model::rules::Condition;
 use star_model::values::RuleValue;
@@ -33,13 +31,6 @@ fn is_part(part: &RuleValue, whole: &RuleValue) -> bool
     }
 }
 
-// Whether the first list is a prefix of the second.
-fn begins(prefix: &[Col], columns: &[Col]) -> bool
-    ensures { result ≡ begins prefix.now columns.now }
-{
-    columns.starts_with(prefix)
-}
-
 // Whether they are equal values of one kind other than stream.
 fn is_same(left: &RuleValue, right: &RuleValue) -> bool
     ensures { result ≡ same_value left.now right.now }
@@ -47,9 +38,7 @@ fn is_same(left: &RuleValue, right: &RuleValue) -> bool
     match (left, right) {
         (RuleValue::Quants(s), RuleValue::Quants(t)) => s == t,
         (RuleValue::Preds(s), RuleValue::Preds(t)) => s == t,
-        (RuleValue::Cols(c), RuleValue::Cols(d)) => {
-            begins(c.as_slice(), d.as_slice()) && begins(d.as_slice(), c.as_slice())
-        }
+        (RuleValue::Cols(c), RuleValue::Cols(d)) => { d.begins_with(c) && c.begins_with(d) }
         (RuleValue::Site(s), RuleValue::Site(t)) => s.0 == t.0,
         (RuleValue::Index(n), RuleValue::Index(m)) => n == m,
         _ => false,
@@ -69,10 +58,10 @@ pub fn holds(condition: &Condition, env: &Env, query: &Query) -> bool
         Condition::Single(v) => quants_of(&value(v, env, query)).len() == 1,
         Condition::Same(v, w) => is_same(&value(v, env, query), &value(w, env, query)),
         Condition::Within(v, w) => is_part(&value(v, env, query), &value(w, env, query)),
-        Condition::Begins(columns, prefix) => begins(
-            cols_of(value(prefix, env, query)).as_slice(),
-            cols_of(value(columns, env, query)).as_slice(),
-        ),
+        Condition::Begins(columns, prefix) => {
+            let prefix = cols_of(value(prefix, env, query));
+            cols_of(value(columns, env, query)).begins_with(&prefix)
+        }
         Condition::Not(c) => !holds(c.get(), env, query),
         Condition::And(c, d) => holds(c.get(), env, query) && holds(d.get(), env, query),
         Condition::Or(c, d) => holds(c.get(), env, query) || holds(d.get(), env, query),

@@ -1,17 +1,14 @@
 //! What the values, conditions and ranges of the rule language mean for a query, under bindings.
 #![tactic(auto)]
 
-mod columns;
 mod conditions;
 mod copies;
 mod env;
-mod home;
 mod predicates;
 mod ranges;
 mod readings;
 mod sets;
 mod streams;
-pub mod theorems;
 mod values;
 
 pub use conditions::holds;

@@ -8,10 +8,9 @@ ghost use Rattle.star_model.specs.Predicates.{columns_of, touches, lies_in, pred
 ghost use Rattle.star_model.specs.Meaning.{between_of, is_equality, indexable_in};
 ghost use Rattle.star_model.specs.WellFormed.{WellFormedQuery};
 
-use crate::columns::index_columns;
-use query_graph::{lies_in, touches};
-use star_model::columns::Col;
-use star_model::query::{Cmp, Operand, Pred, Query};
+use query_graph::{index_columns, is_equality, lies_in, touches};
+use star_model::columns::{Col, ColList};
+use star_model::query::{Operand, Pred, Query};
 use star_model::sets::{PredSet, QuantSet};
 
 fn lies_between(left: QuantSet, right: QuantSet, pred: &Pred) -> bool
@@ -35,16 +34,6 @@ pub fn between(query: &Query, left: QuantSet, right: QuantSet) -> PredSet
     found
 }
 
-// Whether it is an equality of columns of two different quantifiers.
-fn is_equality(pred: &Pred) -> bool
-    ensures { result ≡ is_equality pred.now }
-{
-    match &pred.right {
-        Operand::Column(right) => pred.cmp == Cmp::Eq && pred.left.quant.0 != right.quant.0,
-        Operand::Constant(_) => false,
-    }
-}
-
 /// Those of these predicates that are equalities of columns of two different quantifiers.
 #[tactic(auto, using(crate::proofs::Gathering::gathering))]
 pub fn equalities(query: &Query, preds: PredSet) -> PredSet
@@ -60,22 +49,15 @@ pub fn equalities(query: &Query, preds: PredSet) -> PredSet
     preds.meet(found)
 }
 
-// Whether it is one of the columns.
-fn is_among(columns: &[Col], column: Col) -> bool
-    ensures { result ≡ list_any (same_column column) columns.now }
-{
-    columns.contains(&column)
-}
-
 // Whether it is one of the columns, if its quantifier is in the set.
-fn is_covered(tables: QuantSet, columns: &[Col], column: Col) -> bool
+fn is_covered(tables: QuantSet, columns: &ColList, column: Col) -> bool
     ensures { result ≡ (not (has tables column.quant.0) || list_any (same_column column) columns.now) }
 {
-    !tables.has(column.quant.0) || is_among(columns, column)
+    !tables.has(column.quant.0) || columns.has(column)
 }
 
 // Whether the predicate touches the set, and its columns of the set are among these.
-fn is_served(tables: QuantSet, columns: &[Col], pred: &Pred) -> bool
+fn is_served(tables: QuantSet, columns: &ColList, pred: &Pred) -> bool
     ensures { result ≡ (touches tables pred.now && list_all (λ c. not (has tables c.quant.0) || list_any (same_column c) columns.now) (columns_of pred.now)) }
 {
     match &pred.right {
@@ -98,7 +80,7 @@ pub fn indexable(query: &Query, tables: QuantSet, index: u8, preds: PredSet) -> 
     let columns = index_columns(query, tables, index);
     let mut found = PredSet::empty();
     for (n, pred) in query.preds.as_slice().iter().enumerate() {
-        if is_served(tables, columns.as_slice(), pred) {
+        if is_served(tables, &columns, pred) {
             found = found.union(PredSet::single(n as u8));
         }
     }

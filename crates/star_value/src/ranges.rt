@@ -5,12 +5,11 @@ ghost use Rattle.star_model.specs.Meaning.{members_of};
 ghost use Rattle.star_model.specs.WellFormed.{WellFormedQuery};
 ghost use Rattle.star_value.specs.RangeNumbers.{is_on_table_of, passes, end_of, member_at, members_from, NumberFrom};
 
-use crate::columns::is_index_of;
 use crate::env::Env;
-use crate::home::only_member;
 use crate::readings::{preds_of, quants_of};
 use crate::streams::tables_of;
 use crate::values::value;
+use query_graph::{is_index_of, only_member};
 use star_model::columns::Site;
 use star_model::query::Query;
 use star_model::rules::Range;

@@ -5,15 +5,13 @@ ghost use Rattle.star_model.specs.Meaning.{meaning, ordering};
 ghost use Rattle.star_model.specs.WellFormed.{WellFormedQuery};
 ghost use Rattle.star_model.specs.declared.values.RuleValue.TheVariants as is;
 
-use crate::columns::{index_columns, keys};
 use crate::copies::copied;
 use crate::env::Env;
-use crate::home::{home, site_asked};
 use crate::predicates::{between, equalities, indexable};
 use crate::readings::{cols_of, index_of, preds_of, quants_of, site_of, stream_of};
 use crate::sets::{all_quants, meet_of, minus_of, union_of};
 use crate::streams::{tables_of, with_order, with_path, with_site, with_temp};
-use query_graph::{crossing, eligible};
+use query_graph::{crossing, eligible, home, index_columns, keys, site_asked};
 use star_model::columns::ColList;
 use star_model::query::Query;
 use star_model::rules::ValueExpr;

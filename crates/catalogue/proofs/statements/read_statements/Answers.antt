@@ -1,6 +1,6 @@
 use Rattle.std.proofs.Common.{ap, ◌∙◌, arith}
 use Rattle.sb_text.specs.Statements.{part_of, parts_of_iter}
-use Rattle.catalogue.proofs.Cut.{parts_are, parts_hold, parts_few}
+use Rattle.spelling.proofs.Laws.{parts_said, parts_hold, parts_few}
 use Rattle.catalogue.proofs.Understood.{strange_at}
 use Rattle.catalogue.proofs.statements.read_statements.Goals as goal
 
@@ -10,11 +10,11 @@ loop-statement-init c =
     let source = c.args.source.now in
     let tokens = c.args.tokens.now in
     rw (c.new-list.ensures, same) (record {
-      read = parts_are source tokens c.requires.tokens;
+      read = parts_said source tokens c.requires.tokens;
       columns = tt;
       tokens = parts_hold source tokens c.requires.tokens;
       number = omega arith;
-      few = omega (arith, parts_few source tokens c.requires.tokens c.requires.size);
+      few = omega (arith, parts_few source tokens c.requires.tokens, c.requires.size);
     })
 
 pub returns-in-Err-Strange : goal.returns-in-Err-Strange

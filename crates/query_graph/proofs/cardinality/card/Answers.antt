@@ -1,6 +1,6 @@
 use Rattle.std.proofs.Common.{refl}
 use Rattle.star_model.specs.Cardinality.{card}
-use Rattle.query_graph.proofs.CardinalityLaws.{members_first}
+use Rattle.query_graph.proofs.MemberWalks.{members_first}
 use Rattle.query_graph.proofs.cardinality.card.Goals as goal
 
 pub loop-quant-init : goal.loop-quant-init

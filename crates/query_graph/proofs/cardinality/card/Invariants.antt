@@ -1,7 +1,7 @@
 use Rattle.std.proofs.Common.{◌≡◌, fold}
 use Rattle.star_model.specs.Numbers.{cut_product}
 use Rattle.star_model.specs.Cardinality.{card, preds_at, rows_of}
-use Rattle.query_graph.proofs.CardinalityLaws.{members_from}
+use Rattle.query_graph.proofs.MemberWalks.{members_from}
 use Rattle.query_graph.proofs.cardinality.card.Given as goal
 
 abbrev pub invariant-loop-quant : goal.invariant-loop-quant

@@ -1,8 +1,8 @@
 use Rattle.std.proofs.Common.{length, map, codes}
 use Rattle.spelling.specs.Reading.{the_word}
+use Rattle.spelling.specs.SeriesReadingCases.{Stands}
 use Rattle.query_graph.specs.Words.{said_comparison}
 use Rattle.query_graph.specs.StatementReading.{comparison_at}
-use Rattle.query_graph.proofs.Loops.{Stands}
 use Rattle.query_graph.proofs.comparisons.comparisons.Given as goal
 
 abbrev pub invariant-loop-comparisons : goal.invariant-loop-comparisons

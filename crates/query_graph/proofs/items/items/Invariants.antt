@@ -1,8 +1,8 @@
 use Rattle.std.proofs.Common.{length, map, codes}
 use Rattle.spelling.specs.Reading.{the_symbol}
+use Rattle.spelling.specs.SeriesReadingCases.{Stands}
 use Rattle.query_graph.specs.Words.{said_item}
 use Rattle.query_graph.specs.StatementReading.{item_at}
-use Rattle.query_graph.proofs.Loops.{Stands}
 use Rattle.query_graph.proofs.items.items.Given as goal
 
 abbrev pub invariant-loop-items : goal.invariant-loop-items
