@@ -8,8 +8,8 @@ use Rattle.spelling.specs.Rules as rules
 use Rattle.spelling.specs.RuleLimits.{SpellsNumbered, SpellsDefinition}
 use Rattle.star_syntax.specs.declared.definition.Definition.{Definition}
 use Rattle.star_syntax.specs.declared.definition.Definition.TheVariants.{Formula, Star}
-use Rattle.star_syntax.specs.declared.unread.Unread.{Unread}
-use Rattle.star_syntax.specs.declared.unread.Unread.TheVariants.{Strange, Memory}
+use Rattle.rule_reading.specs.declared.unread.Unread.{Unread}
+use Rattle.rule_reading.specs.declared.unread.Unread.TheVariants.{Strange, Memory}
 
 abbrev pub defined : Definition → rules.Definition
 defined (Formula d) = OfFormula d

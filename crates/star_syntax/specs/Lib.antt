@@ -1,11 +1,4 @@
-pub mod Answers
-pub mod Tables
-pub mod Nests
-pub mod Printing
-pub mod PlanNests
-pub mod Joining
 pub mod LimitTests
 pub mod Definitions
-pub mod FormulaDefs
 pub mod Faults
 pub mod Statements

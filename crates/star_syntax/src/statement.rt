@@ -4,9 +4,7 @@ ghost use Rattle.spelling.specs.Cursors.{AreTokensOf, part_said};
 ghost use Rattle.star_syntax.specs.Definitions.{DefinitionRead};
 
 use crate::definition::Definition;
-use crate::formula_defs::read_formula_def;
-use crate::stars::read_star;
-use crate::unread::Unread;
+use rule_reading::{Unread, read_formula_def, read_star};
 use sb_text::Statement;
 use std::alloc::Global;
 

@@ -11,7 +11,6 @@ mod plan;
 mod read;
 mod refusal;
 mod rule_lines;
-mod rule_words;
 mod status;
 mod texts;
 mod top;

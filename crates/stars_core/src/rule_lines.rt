@@ -1,14 +1,24 @@
 // The lines that tell the faults of a rule file.
 ghost use Rattle.std.specs.Prelude.{◌≡◌, IfOk, Some, string_bytes};
-ghost use Rattle.stars_core.specs.Lines.{arity_line, kind_line, cycle_line, glue_line, no_root_line, no_formula_line, not_monotone_line, too_tall_line, too_wide_line, rules_line};
+ghost use Rattle.stars_core.specs.Lines.{arity_line, kind_line, cycle_line, glue_line, no_root_line, no_formula_line, not_monotone_line, too_tall_line, too_wide_line, rules_line, root_word};
 
 use crate::TextKind;
 use crate::lines::{lexical_line, limit_line, statement_line, twice_line, unknown_line};
-use crate::rule_words::{flavour_word, root_word, which_word};
+use spelling::flavours::{flavour_word, which_word};
 use star_model::faults::{Root, RuleFault};
 use star_model::num::Num;
 use star_model::rules::{Flavour, Which};
 use std::alloc::{AllocError, Global};
+
+// The name of a root STAR.
+fn root_word(root: Root) -> &'static str
+    ensures { result.now ≡ root_word root }
+{
+    match root {
+        Root::AccessRoot => "AccessRoot",
+        Root::JoinRoot => "JoinRoot",
+    }
+}
 
 fn arity_line(alloc: Global, statement: u32) -> Result<String, AllocError>
     ensures { IfOk result (λ line. string_bytes line ≡ arity_line statement) }

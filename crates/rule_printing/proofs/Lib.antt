@@ -1,0 +1,5 @@
+mod PrintedValues
+mod PrintedConditions
+mod PrintedPlans
+mod SortedDefinitions
+mod PrintedFile

@@ -1,0 +1,108 @@
+// Printing a rule file.
+
+ghost use Rattle.std.specs.Prelude.{◌≡◌, true, nat_eq, ◌++◌, map, IfOk, OnOk};
+ghost use Rattle.star_model.specs.WellFormed.{differ};
+ghost use Rattle.spelling.specs.RuleLimits.{statement_numbers};
+ghost use Rattle.spelling.specs.Rules.{OfFormula, OfStar, number_of, formula_def_lexemes, definitions, canonical};
+ghost use Rattle.spelling.specs.Writing.{puts, lines};
+ghost use Rattle.rule_printing.specs.Printing.{definition_of, statement_lexemes};
+
+use crate::star_print::print_star;
+use cost_formula::write_formula;
+use spelling::Writer;
+use spelling::flavours::{flavour_word, which_word};
+use star_model::rules::{FormulaDef, RuleFile, StarDef};
+use std::alloc::{AllocError, Global};
+
+/// A statement of the text, by what it defines.
+#[derive(Clone, Copy)]
+pub enum Statement<'a> {
+    Formula(&'a FormulaDef),
+    Star(&'a StarDef),
+}
+
+impl Statement<'_> {
+    fn number(&self) -> u32
+        ensures { result ≡ number_of (definition_of self.now) }
+    {
+        match self {
+            Statement::Formula(formula) => formula.statement,
+            Statement::Star(star) => star.statement,
+        }
+    }
+}
+
+fn push_formulas<'a>(
+    all: &mut Vec<Statement<'a>>,
+    formulas: &'a [FormulaDef],
+) -> Result<(), AllocError>
+    ensures { OnOk result (map definition_of all.new.items ≡ map definition_of all.old.items ++ map OfFormula formulas.now) }
+{
+    for formula in formulas {
+        all.push(Statement::Formula(formula))?;
+    }
+    Ok(())
+}
+
+fn push_stars<'a>(all: &mut Vec<Statement<'a>>, stars: &'a [StarDef]) -> Result<(), AllocError>
+    ensures { OnOk result (map definition_of all.new.items ≡ map definition_of all.old.items ++ map OfStar stars.now) }
+{
+    for star in stars {
+        all.push(Statement::Star(star))?;
+    }
+    Ok(())
+}
+
+// The statements by their numbers.
+fn statements_in_order(alloc: Global, rules: &RuleFile) -> Result<Vec<Statement<'_>>, AllocError>
+    requires { differ nat_eq (statement_numbers rules.now) ≡ true }
+    ensures { IfOk result (λ all. map definition_of all.items ≡ definitions rules.now.formulas rules.now.stars) }
+{
+    let mut all = Vec::new(alloc);
+    push_formulas(&mut all, rules.formulas.as_slice())?;
+    push_stars(&mut all, rules.stars.as_slice())?;
+    all.sort_unstable_by_key(Statement::number);
+    Ok(all)
+}
+
+#[tactic(auto, using(spelling::proofs::Laws::writing))]
+fn print_formula_def(out: &mut Writer, formula: &FormulaDef) -> Result<(), AllocError>
+    ensures { OnOk result (out.new ≡ puts out.old (formula_def_lexemes formula.now)) }
+{
+    out.word(which_word(formula.which).as_bytes())?;
+    out.word(flavour_word(formula.flavour).as_bytes())?;
+    out.symbol(b"=")?;
+    write_formula(out, &formula.formula)
+}
+
+fn print_statement(out: &mut Writer, statement: &Statement<'_>) -> Result<(), AllocError>
+    ensures { OnOk result (out.new ≡ puts out.old (statement_lexemes statement.now)) }
+{
+    match statement {
+        Statement::Formula(formula) => print_formula_def(out, formula),
+        Statement::Star(star) => print_star(out, star),
+    }
+}
+
+fn print_statements(out: &mut Writer, statements: &[Statement<'_>]) -> Result<(), AllocError>
+    ensures { OnOk result (out.new ≡ lines out.old (map statement_lexemes statements.now)) }
+{
+    for statement in statements {
+        print_statement(out, statement)?;
+        out.end_statement()?;
+    }
+    Ok(())
+}
+
+/// The text that spells the rule file, in canonical layout: its statements in the order of their numbers, each on a line of its own.
+///
+/// Two statements of one number have no order, so the numbers have to differ.
+pub fn print_rules(alloc: Global, rules: &RuleFile) -> Result<Vec<u8>, AllocError>
+    requires { differ nat_eq (statement_numbers rules.now) ≡ true }
+    ensures { IfOk result (λ text. text.items ≡ canonical rules.now) }
+{
+    let statements = statements_in_order(alloc, rules)?;
+    let mut out = Writer::new(alloc);
+    print_statements(&mut out, statements.as_slice())?;
+    Ok(out.into_bytes())
+}

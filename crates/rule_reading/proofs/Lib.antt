@@ -1,0 +1,9 @@
+mod Places
+mod Requirements
+mod Depth
+mod Loops
+mod Parts
+mod PlanDepth
+mod ForAlls
+mod Joined
+mod FormulaDefLaws

@@ -1,0 +1,4 @@
+pub mod Answers
+pub mod Nests
+pub mod PlanNests
+pub mod FormulaDefs

@@ -1,0 +1,16 @@
+-- A function value that reads the plans inside a plan.
+use Rattle.std.specs.Prelude.{ℕ, List, Result}
+use Rattle.std.specs.declared.alloc.Global.{Global}
+use denote.Ref.{Bor, MutBor}
+use Rattle.star_model.specs.declared.rules.PlanExpr.{PlanExpr}
+use Rattle.spelling.specs.Lexemes.{Lexeme}
+use Rattle.spelling.specs.PlanReading.{plan_at}
+use Rattle.rule_reading.specs.declared.unread.Unread.{Unread}
+use Rattle.rule_reading.specs.Answers.{Answers}
+
+-- it may be called, and reads where so many plans and values may be open inside one another
+pub record NestsPlans (depth : ℕ) (pre : Global → Bor (List (List ℕ)) → MutBor (List Lexeme) → ℕ → Type 0)
+    (post : Global → Bor (List (List ℕ)) → MutBor (List Lexeme) → ℕ → Result PlanExpr Unread → MutBor (List Lexeme) → Type 0) : Type 0 where
+  pub callable : (alloc : Global) (scope : Bor (List (List ℕ))) (old : MutBor (List Lexeme)) → pre alloc scope old depth
+  pub reads : (alloc : Global) (scope : Bor (List (List ℕ))) (old new : MutBor (List Lexeme)) (r : Result PlanExpr Unread) → post alloc scope old depth r new
+      → Answers (plan_at scope.now depth old.now) r new.now

@@ -1,0 +1,48 @@
+// Reading the for-all clauses of alternatives.
+ghost use Rattle.std.specs.Prelude.{map};
+ghost use Rattle.spelling.specs.StarReading.{for_all_at, ranges_at};
+ghost use Rattle.rule_reading.specs.Answers.{Answers};
+
+use crate::names::free_name;
+use crate::ranges::range;
+use crate::scope::Scope;
+use crate::unread::Unread;
+use spelling::Cursor;
+use star_model::lists::List;
+use star_model::rules::{ForAll, Param};
+use std::alloc::Global;
+
+// A for-all clause, behind its first word.
+#[tactic(auto, unfolding(spelling::specs::StarReading::for_all_at))]
+fn for_all(
+    alloc: Global,
+    scope: &Scope<'_>,
+    cursor: &mut Cursor<'_>,
+    depth: usize,
+) -> Result<ForAll, Unread>
+    ensures { Answers (for_all_at scope.now depth cursor.old) result cursor.new }
+{
+    let name = free_name(alloc, cursor)?;
+    cursor.the_word(b"in").ok_or(Unread::Strange)?;
+    let range = range(alloc, scope, cursor, depth)?;
+    Ok(ForAll { name, range })
+}
+
+/// The for-all clauses of an alternative. The range of each sees the parameters, and the names of those before it.
+#[tactic(auto, unfolding(spelling::specs::StarReading::ranges_at))]
+pub fn ranges(
+    alloc: Global,
+    params: &[Param],
+    cursor: &mut Cursor<'_>,
+    depth: usize,
+) -> Result<List<ForAll>, Unread>
+    ensures { Answers (ranges_at (map (λ p. p.name) params.now) depth cursor.old) result cursor.new }
+{
+    let mut ranges = List::new(alloc);
+    'clauses: while cursor.the_word(b"for").is_some() {
+        let scope = Scope::new(params, ranges.as_slice());
+        let range = for_all(alloc, &scope, cursor, depth)?;
+        ranges.push(range)?;
+    }
+    Ok(ranges)
+}

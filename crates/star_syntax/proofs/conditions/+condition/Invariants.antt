@@ -1,4 +1,0 @@
-use Rattle.star_syntax.proofs.conditions.+condition.Given as goal
-
-abbrev pub decreases-condition : goal.decreases-condition
-decreases-condition l = l.depth

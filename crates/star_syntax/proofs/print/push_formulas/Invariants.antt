@@ -1,7 +1,0 @@
-use Rattle.std.proofs.Common.{◌≡◌, ◌++◌, map, take}
-use Rattle.spelling.specs.Rules.{OfFormula}
-use Rattle.star_syntax.specs.Printing.{definition_of}
-use Rattle.star_syntax.proofs.print.push_formulas.Given as goal
-
-abbrev pub invariant-loop-formula : goal.invariant-loop-formula
-invariant-loop-formula l = map definition_of l.all.items ≡ map definition_of l.fn.all.items ++ map OfFormula (take l.formula-index l.formulas)
