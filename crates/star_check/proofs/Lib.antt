@@ -14,6 +14,13 @@ mod Places
 mod Rounds
 mod Orders
 mod Owned
+mod Named
+mod Descending
+mod Bindings
+mod Bodies
+mod SoundPlaces
+mod AccessPlaces
+mod SmallerGoals
 mod OneFault
 mod AcceptedLaws
 pub mod Laws

@@ -25,15 +25,19 @@ use Rattle.spelling.proofs.Laws.{same_are}
 use Rattle.star_check.specs.Owning.{NamesAreOwn, NamesAreKnown, FormulasAreOwn}
 use Rattle.star_check.proofs.Places.{Place, place, find_passes, find_none}
 
-any_at : {A : Type 0} (p : A → Bool) (xs : List A) (i : ℕ) (x : A) → slice_get xs i ≡ Some x → p x ≡ true → list_any p xs ≡ true
+pub fails : (b : Bool) → (b ≡ true → ⊥) → b ≡ false
+fails true never = absurd (never refl)
+fails false never = refl
+
+pub any_at : {A : Type 0} (p : A → Bool) (xs : List A) (i : ℕ) (x : A) → slice_get xs i ≡ Some x → p x ≡ true → list_any p xs ≡ true
 any_at p [] i x at h = absurd (none-some x at)
 any_at p (y ∷ ys) zero x at h = ap (λ b. b || list_any p ys) (ap p (same_Some y x at) ∙ h)
 any_at p (y ∷ ys) (suc i) x at h = ap (λ b. p y || b) (any_at p ys i x at h) ∙ or-true (p y)
 
-contains_at : {A : Type 0} (xs : List A) (i : ℕ) (x : A) → slice_get xs i ≡ Some x → Contains xs x
+pub contains_at : {A : Type 0} (xs : List A) (i : ℕ) (x : A) → slice_get xs i ≡ Some x → Contains xs x
 contains_at xs i x at = (i, slice_get_within xs i x at, get_or_from_slice_get xs i x x at)
 
-same_self : (xs : List ℕ) → same_numbers xs xs ≡ true
+pub same_self : (xs : List ℕ) → same_numbers xs xs ≡ true
 same_self xs = nat_list_eq_equiv.refl xs
 
 -- ---- the STARs' statements have numbers of their own
@@ -118,10 +122,6 @@ names_are_known rules known = record {
       (list_any (nat_eq 255) (flat_map variables_in (flat_map values_of_alternative s.alternatives)))
       (fails (is_unknown rules s) (λ h. known s.statement (s, contains_at rules.stars i s at, refl, h)))).0;
 }
-  where
-    fails : (b : Bool) → (b ≡ true → ⊥) → b ≡ false
-    fails true never = absurd (never refl)
-    fails false never = refl
 
 -- ---- formulas
 

@@ -20,7 +20,7 @@ use Rattle.star_check.proofs.Walks.{any_map, any_in_bodies}
 use Rattle.star_check.proofs.Closing.{closed_below, grows, sound, joined_length}
 
 -- its references have the name
-refers_where : (rules : RuleFile) (s : StarDef) (name : List ℕ) → occurs rules name (map (λ r. r.0) (references_of s)) ≡ refers s name
+pub refers_where : (rules : RuleFile) (s : StarDef) (name : List ℕ) → occurs rules name (map (λ r. r.0) (references_of s)) ≡ refers s name
 refers_where rules s name = any_map (same_numbers name) (λ r. r.0) (references_of s) ∙ any_in_bodies (λ r. same_numbers name r.0) references_in s.alternatives
 
 -- the STARs at these positions, of which the first reaches the second

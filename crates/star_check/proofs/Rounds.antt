@@ -1,6 +1,6 @@
 -- Heights and weights, one STAR deeper in each round.
 use Prim.Native.Nat.{zero, suc}
-use Rattle.std.proofs.Common.{◌≡◌, ℕ, ◌+◌, ◌<◌, ◌≤◌, inl, inr, nat_lt, max, Bool, true, false, if◌then◌else◌, List, [], ◌∷◌, length, map, get_or, replicate, refl, ap, sym, ◌∙◌, subst, arith}
+use Rattle.std.proofs.Common.{◌≡◌, ℕ, ◌+◌, ◌-◌, ◌<◌, ◌≤◌, inl, inr, nat_lt, max, Bool, true, false, if◌then◌else◌, List, [], ◌∷◌, length, map, get_or, replicate, refl, ap, sym, ◌∙◌, subst, arith}
 use Rattle.std.specs.Prelude.{Option, Some, None, is_none, slice_get, slice_index, position}
 use Rattle.std.specs.List.{fold, list_any, All}
 use Rattle.std.specs.Option.{option_map, option_map_or}
@@ -12,7 +12,7 @@ use Rattle.std.proofs.lemmas.Bool.{false≢true, or_parts, cases_lt}
 use Rattle.star_model.specs.Numbers.{cut_sum}
 use Rattle.star_model.specs.Stars.{star_named}
 use Rattle.star_model.specs.Vectors.{same_numbers}
-use Rattle.star_model.specs.Accepted.{references_in, references_of, height_within, weight_within}
+use Rattle.star_model.specs.Accepted.{references_in, references_of, height_within, height_of, weight_within, weight_of}
 use Rattle.star_model.specs.declared.rules.StarDef.{StarDef}
 use Rattle.star_model.specs.declared.rules.ValueExpr.{ValueExpr}
 use Rattle.star_model.specs.declared.rules.Flavour.{Flavour}
@@ -125,6 +125,41 @@ height_round rules stars n heights next own known same before after =
 pub first_heights : (rules : RuleFile) (stars : List StarDef) → replicate {A = ℕ} (length stars) 0 ≡ map (λ s. height_within rules 0 s.name) stars
 unfolding height_within
 first_heights rules stars = zeros stars
+
+-- ---- a round that changes nothing is the last that matters
+
+settled : (step : List ℕ → List ℕ) (sizes : ℕ → List ℕ) → ((n : ℕ) → step (sizes n) ≡ sizes (n + 1)) → (n k : ℕ) → sizes (n + 1) ≡ sizes n → sizes (n + k) ≡ sizes n
+settled step sizes goes n zero same = ap sizes (let e : n + 0 ≡ n = omega arith in e)
+settled step sizes goes n (suc k) same =
+    ap sizes (let e : n + suc k ≡ n + k + 1 = omega arith in e) ∙ sym (goes (n + k)) ∙ ap step (settled step sizes goes n k same) ∙ goes n ∙ same
+
+last_round : (step : List ℕ → List ℕ) (sizes : ℕ → List ℕ) → ((n : ℕ) → step (sizes n) ≡ sizes (n + 1)) → (n last : ℕ) → sizes (n + 1) ≡ sizes n → n ≤ last → sizes n ≡ sizes last
+last_round step sizes goes n last same below =
+    sym (settled step sizes goes n (last - n) same) ∙ ap sizes (let e : n + (last - n) ≡ last = omega (arith, below) in e)
+
+pub heights_settled : (rules : RuleFile) (stars : List StarDef) (n : ℕ) (heights next : List ℕ) → NamesAreOwn rules → NamesAreKnown rules → stars ≡ rules.stars → n < length stars
+    → heights ≡ map (λ s. height_within rules n s.name) stars → next ≡ map (next_height stars heights) stars → same_numbers next heights ≡ true
+    → next ≡ map (height_of rules) rules.stars
+heights_settled rules stars n heights next own known same below before after equal =
+    let sizes : ℕ → List ℕ = λ m. map (λ s. height_within rules m s.name) rules.stars in
+    let step : List ℕ → List ℕ = λ hs. map (next_height rules.stars hs) rules.stars in
+    let goes : (m : ℕ) → step (sizes m) ≡ sizes (m + 1) = λ m. height_round rules rules.stars m (sizes m) (step (sizes m)) own known refl refl refl in
+    let here : heights ≡ sizes n = before ∙ ap (map (λ s. height_within rules n s.name)) same in
+    let after_it : next ≡ sizes (n + 1) = height_round rules stars n heights next own known same before after ∙ ap (map (λ s. height_within rules (n + 1) s.name)) same in
+    let stays : sizes (n + 1) ≡ sizes n = sym after_it ∙ same_are next heights equal ∙ here in
+    after_it ∙ stays ∙ last_round step sizes goes n (length rules.stars) stays (let long = ap length same in omega (arith, below, long))
+
+pub weights_settled : (rules : RuleFile) (stars : List StarDef) (n : ℕ) (weights next : List ℕ) → NamesAreOwn rules → stars ≡ rules.stars → n < length stars
+    → weights ≡ map (λ s. weight_within rules n s.name) stars → next ≡ map (next_weight stars weights) stars → same_numbers next weights ≡ true
+    → next ≡ map (weight_of rules) rules.stars
+weights_settled rules stars n weights next own same below before after equal =
+    let sizes : ℕ → List ℕ = λ m. map (λ s. weight_within rules m s.name) rules.stars in
+    let step : List ℕ → List ℕ = λ ws. map (next_weight rules.stars ws) rules.stars in
+    let goes : (m : ℕ) → step (sizes m) ≡ sizes (m + 1) = λ m. weight_round rules rules.stars m (sizes m) (step (sizes m)) own refl refl refl in
+    let here : weights ≡ sizes n = before ∙ ap (map (λ s. weight_within rules n s.name)) same in
+    let after_it : next ≡ sizes (n + 1) = weight_round rules stars n weights next own same before after ∙ ap (map (λ s. weight_within rules (n + 1) s.name)) same in
+    let stays : sizes (n + 1) ≡ sizes n = sym after_it ∙ same_are next weights equal ∙ here in
+    after_it ∙ stays ∙ last_round step sizes goes n (length rules.stars) stays (let long = ap length same in omega (arith, below, long))
 
 -- a height is at most the depth at which it is seen
 low_fold : (f : (List ℕ × List ValueExpr) → ℕ) (n : ℕ) → ((r : List ℕ × List ValueExpr) → f r ≤ n) → (rs : List (List ℕ × List ValueExpr)) (h : ℕ) → h ≤ n

@@ -9,6 +9,8 @@ pub mod Reaching
 pub mod Owning
 pub mod CycleFaults
 pub mod Sizes
+pub mod Heights
+pub mod SoundPlaces
 pub mod Checking
 pub mod Passing
 pub mod CheckedFiles

@@ -88,12 +88,9 @@ pub fn check_rules(alloc: Global, rules: RuleFile) -> Result<CheckedRules, RuleF
     requires { WellFormedRules rules }
     ensures { Checks rules result }
 {
-    match first_fault(alloc, &rules) {
-        Err(_) => Err(RuleFault::Memory),
-        Ok(Some(fault)) => Err(fault),
-        Ok(None) => match costs_of(alloc, rules.formulas.as_slice()) {
-            Err(_) => Err(RuleFault::Memory),
-            Ok(costs) => Ok(CheckedRules { rules, costs }),
-        },
+    if let Some(fault) = first_fault(alloc, &rules)? {
+        return Err(fault);
     }
+    let costs = costs_of(alloc, rules.formulas.as_slice())?;
+    Ok(CheckedRules { rules, costs })
 }

@@ -103,7 +103,14 @@ fn no_heights(alloc: Global, count: usize) -> Result<Vec<u32>, AllocError>
     vec![in alloc; 0; count]
 }
 
-/// The height of each STAR. No path without a cycle is longer than the number of STARs, so that many rounds are enough.
+fn are_same(heights: &[u32], others: &[u32]) -> bool
+    ensures { result ≡ same_numbers heights.now others.now }
+{
+    heights == others
+}
+
+/// The height of each STAR. No path without a cycle is longer than the number of STARs, so that many rounds are enough; after one that
+/// changes nothing no other does.
 pub fn heights(alloc: Global, rules: &RuleFile) -> Result<Vec<u32>, AllocError>
     requires few { length rules.now.stars ≤ 64 }
     requires own { NamesAreOwn rules.now }
@@ -113,7 +120,11 @@ pub fn heights(alloc: Global, rules: &RuleFile) -> Result<Vec<u32>, AllocError>
     let stars = rules.stars.as_slice();
     let mut heights = no_heights(alloc, stars.len())?;
     for _round in 0..stars.len() {
-        heights = next_heights(alloc, stars, &heights)?;
+        let next = next_heights(alloc, stars, &heights)?;
+        if are_same(&next, &heights) {
+            return Ok(next);
+        }
+        heights = next;
     }
     Ok(heights)
 }

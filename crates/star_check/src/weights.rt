@@ -88,7 +88,14 @@ fn no_weights(alloc: Global, count: usize) -> Result<Vec<Num>, AllocError>
     vec![in alloc; Num::cut(0); count]
 }
 
-/// The weight of each STAR. No path without a cycle is longer than the number of STARs, so that many rounds are enough.
+fn are_same(weights: &[Num], others: &[Num]) -> bool
+    ensures { result ≡ same_numbers weights.now others.now }
+{
+    weights == others
+}
+
+/// The weight of each STAR. No path without a cycle is longer than the number of STARs, so that many rounds are enough; after one that
+/// changes nothing no other does.
 pub fn weights(alloc: Global, rules: &RuleFile) -> Result<Vec<Num>, AllocError>
     requires { NamesAreOwn rules.now }
     ensures { IfOk result (λ weights. weights.items ≡ map (weight_of rules.now) rules.now.stars) }
@@ -96,7 +103,11 @@ pub fn weights(alloc: Global, rules: &RuleFile) -> Result<Vec<Num>, AllocError>
     let stars = rules.stars.as_slice();
     let mut weights = no_weights(alloc, stars.len())?;
     for _round in 0..stars.len() {
-        weights = next_weights(alloc, stars, &weights)?;
+        let next = next_weights(alloc, stars, &weights)?;
+        if are_same(&next, &weights) {
+            return Ok(next);
+        }
+        weights = next;
     }
     Ok(weights)
 }

@@ -10,5 +10,5 @@ use Rattle.star_check.proofs.checked.check_rules.Goals as goal
 
 pub costs_of-requires : goal.costs_of-requires
 costs_of-requires c =
-    let accepted : IsAccepted c.args.rules = subst (λ (fault : Option RuleFault). IsFirstFault c.args.rules fault) c.in-Ok-None.field-0-is c.in-Ok-None.ensures in
+    let accepted : IsAccepted c.args.rules = subst (λ (fault : Option RuleFault). IsFirstFault c.args.rules fault) c.in_default.is c.in_ok-fault.ensures in
     subst (λ (ds : List FormulaDef). FormulasAreOwn ds) (sym c.as_slice.ensures) (formulas_are_own c.args.rules c.requires accepted.once)

@@ -1,7 +1,8 @@
 use Rattle.std.proofs.Common.{◌≤◌, List, length, subst, ap, ◌∙◌, sym, map, arith}
+use Rattle.star_model.specs.Vectors.{same_numbers}
 use Rattle.star_model.specs.declared.rules.StarDef.{StarDef}
 use Rattle.star_check.specs.Sizes.{next_height}
-use Rattle.star_check.proofs.Rounds.{first_heights, height_round, low_heights}
+use Rattle.star_check.proofs.Rounds.{first_heights, height_round, heights_settled, low_heights}
 use Rattle.star_check.proofs.heights.heights.Goals as goal
 
 pub loop-round-init : goal.loop-round-init
@@ -21,9 +22,25 @@ loop-round-preserved c =
     c.as_slice-stars.result.now
     c.loop-round._round
     c.loop-round.heights.items
-    c.in_ok-heights-2.heights.items
+    c.in_ok-next.next.items
     c.requires.own
     c.requires.known
     c.as_slice-stars.ensures
     c.loop-round.invariant
-    (c.in_ok-heights-2.ensures ∙ ap (λ hs. map (next_height c.as_slice-stars.result.now hs) c.as_slice-stars.result.now) c.deref.ensures.value)
+    (c.in_ok-next.ensures ∙ ap (λ hs. map (next_height c.as_slice-stars.result.now hs) c.as_slice-stars.result.now) c.deref.ensures.value)
+
+pub returns-then-are_same : goal.returns-then-are_same
+returns-then-are_same c =
+    heights_settled
+    c.args.rules.now
+    c.as_slice-stars.result.now
+    c.loop-round._round
+    c.loop-round.heights.items
+    c.in_ok-next.next.items
+    c.requires.own
+    c.requires.known
+    c.as_slice-stars.ensures
+    c.loop-round-test.true
+    c.loop-round.invariant
+    (c.in_ok-next.ensures ∙ ap (λ hs. map (next_height c.as_slice-stars.result.now hs) c.as_slice-stars.result.now) c.deref.ensures.value)
+    (sym ((λ i. same_numbers (c.deref-in-loop-round.ensures.value i) (c.deref-in-loop-round-2.ensures.value i))) ∙ sym c.are_same.ensures ∙ c.if-are_same.true)
