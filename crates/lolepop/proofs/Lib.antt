@@ -1,0 +1,8 @@
+mod ArityLaws
+mod OwnColumns
+mod UsedColumns
+mod NoInput
+mod DerivedLaws
+mod FitLaws
+mod ServeLaws
+pub mod Laws

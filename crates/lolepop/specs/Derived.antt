@@ -1,0 +1,57 @@
+-- Derived plans: a plan with its vectors, and its derivation. What a node of a derivation makes of those below it.
+use Rattle.std.specs.Prelude.{ℕ, Bool, List, [], ◌∷◌, Option}
+use Rattle.std.specs.Option.{option_map}
+use Rattle.star_model.specs.Operators.{step}
+use Rattle.star_model.specs.Plans.{op_of}
+use Rattle.star_model.specs.Vectors.{is_better}
+use Rattle.star_model.specs.DerivCases as deriv
+use Rattle.star_model.specs.declared.derivations.Deriv.TheVariants as made
+use Rattle.star_model.specs.declared.query.Query.{Query}
+use Rattle.star_model.specs.declared.costs.CostEntry.{CostEntry}
+use Rattle.star_model.specs.declared.derivations.Deriv.{Deriv}
+use Rattle.star_model.specs.declared.plans.GlueOp.{GlueOp}
+use Rattle.star_model.specs.declared.plans.Goal.{Goal}
+use Rattle.star_model.specs.declared.plans.Op.{Op}
+use Rattle.star_model.specs.declared.plans.Props.{Props}
+use Rattle.star_model.specs.declared.plans.Require.{Require}
+use Rattle.star_model.specs.declared.rules.Flavour.{Flavour}
+use Rattle.lolepop.specs.PlanTrees.{PlanTree, Leaf, Unary, Binary, top_vector}
+
+-- the plan and the derivation, of which nothing here says that they belong together
+pub record DerivedPlan : Type 0 where
+  pub tree : PlanTree
+  pub deriv : Deriv
+
+abbrev pub vector_of : DerivedPlan → Props
+vector_of e = top_vector e.tree
+
+-- whether the first may stand in place of the second
+abbrev pub is_better_plan : DerivedPlan → DerivedPlan → Bool
+is_better_plan e f = is_better (vector_of e) (vector_of f)
+
+-- ---- operators: none where they aren't applicable
+
+abbrev pub derived_leaf : Query → List CostEntry → Flavour → Op → Option DerivedPlan
+derived_leaf q costs f o = option_map (λ v. record { tree = Leaf o v; deriv = made.Leaf f }) (step q costs o [])
+
+abbrev pub derived_unary : Query → List CostEntry → Flavour → Op → DerivedPlan → Option DerivedPlan
+derived_unary q costs f o e = option_map (λ v. record { tree = Unary o v e.tree; deriv = deriv.Unary f e.deriv }) (step q costs o (vector_of e ∷ []))
+
+abbrev pub derived_binary : Query → List CostEntry → Flavour → Op → DerivedPlan → DerivedPlan → Option DerivedPlan
+derived_binary q costs f o d e =
+    option_map (λ v. record { tree = Binary o v d.tree e.tree; deriv = deriv.Binary f d.deriv e.deriv }) (step q costs o (vector_of d ∷ vector_of e ∷ []))
+
+-- an operator of a chain of Glue: the derivation has one node for the whole chain
+abbrev pub enforced : Query → List CostEntry → Require → GlueOp → DerivedPlan → Option DerivedPlan
+enforced q costs r word e = option_map (λ v. record e { tree = Unary (op_of r word) v e.tree }) (step q costs (op_of r word) (vector_of e ∷ []))
+
+-- ---- nodes with the plan of the one below
+
+abbrev pub under_glue : List GlueOp → DerivedPlan → DerivedPlan
+under_glue chain e = record e { deriv = deriv.Glue chain e.deriv }
+
+abbrev pub under_goal : Goal → Option (ℕ × ℕ) → DerivedPlan → DerivedPlan
+under_goal goal split e = record e { deriv = deriv.Goal goal split e.deriv }
+
+abbrev pub under_reference : List ℕ → ℕ → List ℕ → DerivedPlan → DerivedPlan
+under_reference star alternative values e = record e { deriv = deriv.Reference star alternative values e.deriv }

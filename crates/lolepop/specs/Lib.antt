@@ -1,0 +1,11 @@
+pub mod Inputs
+pub mod OwnColumns
+pub mod UsedColumns
+pub mod PlanTrees
+pub mod PlanTreeCode
+pub mod Nodes
+pub mod NodeSizes
+pub mod Applying
+pub mod Traces
+pub mod Derived
+pub mod DerivedCode

@@ -1,0 +1,28 @@
+//! Operators over plans: the vector of a result, plans whose parts are shared, and derivations beside them.
+#![tactic(auto)]
+
+mod applicability;
+mod applying;
+mod arguments;
+mod best;
+mod chain_words;
+mod conditions;
+mod entry;
+mod inputs;
+mod own_columns;
+mod plan_node;
+mod predicates;
+mod pricing;
+mod results;
+mod steps;
+pub mod theorems;
+mod trace;
+mod variables;
+
+pub use applying::apply;
+pub use best::Best;
+pub use chain_words::glue_operator;
+pub use entry::Entry;
+pub use plan_node::PlanNode;
+pub use steps::step;
+pub use trace::Trace;
