@@ -1,26 +1,19 @@
 -- What is read of a text is small.
-use Rattle.std.proofs.Common.{◌≤◌, ◌<◌, ℕ, List, [], ◌∷◌, length, subst, arith}
-use Rattle.std.specs.List.{All}
+use Rattle.std.proofs.Common.{◌≤◌, ◌<◌, ℕ, List, length, subst, arith}
 use Rattle.std.proofs.lemmas.List.{length-map}
-use Rattle.std.proofs.lemmas.List.Elements.{All-tail}
 use Rattle.sb_text.specs.Refusal.{AreTokens}
-use Rattle.sb_text.specs.Tokens.{lexed, Lexed}
-use Rattle.sb_text.specs.Reading.{IsTokenOf}
+use Rattle.sb_text.specs.Tokens.{Lexed}
 use Rattle.sb_text.specs.declared.token.Token.{Token}
-use Rattle.sb_text.proofs.Laws.{tokens-lexed, length-lexed}
+use Rattle.sb_text.proofs.Laws.{length-lexed}
 use Rattle.star_model.specs.Monotone.{nodes}
 use Rattle.star_model.specs.declared.formula.Formula.{Formula}
-use Rattle.spelling.specs.Lexemes.{Every, lexeme_of, lexemes_of}
+use Rattle.spelling.specs.Lexemes.{lexeme_of, lexemes_of}
 use Rattle.spelling.specs.Cursors.{AreTokensOf}
 use Rattle.spelling.specs.Formulas.{SpellsFormula}
-use Rattle.spelling.proofs.Laws.{few_nodes}
-
-every_of : {A : Type 0} (P : A → Type 0) (xs : List A) → All P xs → Every P xs
-every_of P [] all = tt
-every_of P (x ∷ xs) all = (all 0 x (omega arith), every_of P xs (All-tail P x xs all))
+use Rattle.spelling.proofs.Laws.{own_tokens, few_nodes}
 
 pub are_tokens : (source : List ℕ) (tokens : List Token) → AreTokens source tokens → AreTokensOf source tokens
-are_tokens source tokens are = subst (λ (l : Lexed). AreTokensOf source l.0) are.lexed (every_of (IsTokenOf source) (lexed source).0 (tokens-lexed source))
+are_tokens source tokens are = subst (λ (l : Lexed). AreTokensOf source l.0) are.lexed (own_tokens source)
 
 pub small : (source : List ℕ) (tokens : List Token) (f : Formula) → AreTokens source tokens → length source ≤ 1048576 → SpellsFormula (lexemes_of source tokens) f → length (nodes f) < 4294967296
 small source tokens f are short spells =
