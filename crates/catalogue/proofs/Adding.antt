@@ -11,10 +11,10 @@ use Rattle.spelling.specs.Catalogues.{CatalogueStatement, Site, Table, Index, Ta
 use Rattle.std.proofs.lemmas.List.{map-append}
 use Rattle.std.proofs.lemmas.Bool.{or_left, or_right, and_from}
 use Rattle.star_model.specs.Vectors.{same_numbers}
-use Rattle.spelling.proofs.Laws.{same_self}
 use Rattle.catalogue.specs.Defined.{sites_in, tables_in, indexes_in, names_of, columns_in}
 use Rattle.catalogue.proofs.DefinedLaws.{sites_in-append, tables_in-append, indexes_in-append, columns_in-append, among-append, among_columns}
 use Rattle.catalogue.proofs.PlaceLaws.{places_of}
+use Rattle.star_model.proofs.Laws.{same_self}
 
 abbrev pub index_names : Catalogue → List (List ℕ)
 index_names c = map (λ i. i.name) c.indexes

@@ -6,7 +6,6 @@ use Rattle.std.specs.Option.{option_map}
 use Rattle.std.proofs.lemmas.List.{map-append, length-append, length-map}
 use Rattle.std.proofs.lemmas.Bool.{and_parts, and_from, or_from, or_cases, not_from_true, both_ways, le-ltb}
 use Rattle.std.proofs.lemmas.List.Folds.{list_all-append}
-use Rattle.spelling.proofs.Laws.{same_are}
 use Rattle.std.proofs.lemmas.Option.{option_and_then_some, slice_get-map}
 use Rattle.star_model.specs.Numbers.{top}
 use Rattle.star_model.specs.Vectors.{same_numbers}
@@ -29,6 +28,7 @@ use Rattle.catalogue.proofs.LexemeLimits.{great_to, long_to}
 use Rattle.catalogue.proofs.Places.{among_found, found_place}
 use Rattle.catalogue.proofs.PlaceLaws.{places_of, each_known, as_many, names_differ, new_name, each_within, all_within, each_placed, place_before}
 use Rattle.catalogue.proofs.Adding.{index_names, made_index, table_added, index_added, Extends, later_extend, Follows, follows_site, follows_table, follows_index, follows_nothing}
+use Rattle.star_model.proofs.Laws.{same_are}
 
 -- ---- names and numbers of well-formed catalogues
 

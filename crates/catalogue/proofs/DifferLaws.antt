@@ -8,9 +8,9 @@ use Rattle.std.proofs.lemmas.List.Folds.{list_all-append}
 use Rattle.star_model.specs.Vectors.{same_numbers}
 use Rattle.star_model.specs.WellFormed.{differ}
 use Rattle.spelling.specs.Names.{is_among}
-use Rattle.spelling.proofs.Laws.{same_self}
 use Rattle.catalogue.specs.NameSets.{with_name}
 use Rattle.catalogue.proofs.FirstLaws.{take_one}
+use Rattle.star_model.proofs.Laws.{same_self}
 
 same_sym : (a b : List ℕ) → same_numbers a b ≡ same_numbers b a
 same_sym a b = at (same_numbers a b) (same_numbers b a) refl refl where

@@ -23,7 +23,7 @@ use Rattle.spelling.specs.Layout.{IsLexeme}
 use Rattle.spelling.specs.Names.{is_among, place_of, all_of}
 use Rattle.spelling.specs.Firsts.{NoneFrom, NoneHas}
 use Rattle.spelling.specs.Catalogues.{TablePart, IndexPart, CatalogueStatement, Site, Table, Index, column_lexemes, catalogue_lexemes, HasColumns, site_names, table_names, column_names, table_from, with_statement, with_statements, nothing_defined, catalogue_of}
-use Rattle.spelling.proofs.Laws.{formed_statements, same_self}
+use Rattle.spelling.proofs.Laws.{formed_statements}
 use Rattle.star_model.specs.declared.faults.LimitKind.TheVariants as limit
 use Rattle.catalogue.specs.Defined.{sites_in, tables_in, indexes_in, names_of, is_defined, has_column_twice, DefinesTwice}
 use Rattle.catalogue.specs.Beyond.{IsBeyond, IsFileName}
@@ -34,6 +34,7 @@ use Rattle.catalogue.proofs.DifferLaws.{differ_more}
 use Rattle.catalogue.proofs.LexemeLimits.{great_from, long_from}
 use Rattle.catalogue.proofs.LimitLaws.{file_name_from, file_name_to}
 use Rattle.catalogue.proofs.Places.{Stands, found_place}
+use Rattle.star_model.proofs.Laws.{same_self}
 
 -- ---- names and numbers
 

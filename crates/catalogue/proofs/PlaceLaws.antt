@@ -8,9 +8,9 @@ use Rattle.std.proofs.lemmas.Bool.{and_parts, and_from, both_ways, not_from_fals
 use Rattle.star_model.specs.Vectors.{same_numbers}
 use Rattle.star_model.specs.WellFormed.{differ, Each, more}
 use Rattle.spelling.specs.Names.{is_among, place_of, all_of}
-use Rattle.spelling.proofs.Laws.{same_are}
 use Rattle.catalogue.proofs.DifferLaws.{repeats}
 use Rattle.catalogue.proofs.Places.{among_found}
+use Rattle.star_model.proofs.Laws.{same_are}
 
 -- ---- lists of names that are found
 

@@ -10,7 +10,7 @@ use Rattle.spelling.specs.Catalogues.{CatalogueStatement, column_lexemes, name_l
 use Rattle.spelling.specs.Reading.{Reader, ◌>>=◌, pure, given, the_word, the_symbol, a_word, a_number, a_text}
 use Rattle.spelling.specs.ReadingCases.{given_reads}
 use Rattle.spelling.specs.SeriesReadingCases.{Spells, series_spelled}
-use Rattle.spelling.proofs.Laws.{same_are, the_word_reads, the_symbol_reads, a_word_reads, a_number_reads, a_text_reads, then_reads}
+use Rattle.spelling.proofs.Laws.{the_word_reads, the_symbol_reads, a_word_reads, a_number_reads, a_text_reads, then_reads}
 use Rattle.catalogue.specs.declared.words.SiteWords.{SiteWords}
 use Rattle.catalogue.specs.declared.words.ColumnWords.{ColumnWords}
 use Rattle.catalogue.specs.declared.words.TableWords.{TableWords}
@@ -19,6 +19,7 @@ use Rattle.catalogue.specs.declared.words.StatementWords.{StatementWords}
 use Rattle.catalogue.specs.declared.words.StatementWords.TheVariants.{Site, Table, Index}
 use Rattle.catalogue.specs.Words.{site_of, column_of, table_of, index_of, said}
 use Rattle.catalogue.specs.Reading.{items_at, site_at, type_named, column_at, table_at, index_at, behind, statement_at}
+use Rattle.star_model.proofs.Laws.{same_are}
 
 -- what a reader reads stands at the front, as it is spelled
 abbrev pub Sound : {A : Type 0} → Reader A → (A → List Lexeme) → Type 0

@@ -24,10 +24,10 @@ use Rattle.star_model.specs.declared.values.RuleValue.TheVariants as is
 use Rattle.star_model.specs.declared.catalogue.Catalogue.{Catalogue}
 use Rattle.star_model.specs.declared.columns.Col.{Col}
 use Rattle.star_model.specs.declared.query.QuantDef.{QuantDef}
-use Rattle.spelling.proofs.Laws.{same_are}
 use Rattle.heap_plan.specs.Small.{heap_derivation}
 use Rattle.heap_plan.specs.HeapStars.{heap_alternative, heap_access_root}
 use Rattle.heap_plan.proofs.Parts.{small_query}
+use Rattle.star_model.proofs.Laws.{same_are}
 
 left : (a b : Bool) → (a && b) ≡ true → a ≡ true
 left true b h = refl

@@ -14,7 +14,9 @@ use Rattle.star_model.specs.Stars.{star_named, numbered}
 use Rattle.star_model.specs.Goals.{is_target}
 use Rattle.star_model.specs.Predicates.{used, eligible}
 use Rattle.star_model.specs.Meaning.{meaning, plain}
-use Rattle.star_model.specs.Vectors.{begins, satisfies}
+use Rattle.star_model.specs.Vectors.{begins}
+use Rattle.star_model.specs.Canon.{canon}
+use Rattle.star_model.specs.Requirements.{satisfies}
 use Rattle.star_model.specs.Expected.{Expected, Expression, ForGoal, leaf_of, root_call, bound, meets, reference_body, root_requirement}
 use Rattle.star_model.specs.Judging.{Vector, vector_or, if_valid, fitting, only_if, judge, judge_root}
 use Rattle.star_model.specs.DerivCases.{Goal, Reference}
@@ -33,11 +35,11 @@ use Rattle.star_model.specs.declared.values.RuleValue.{RuleValue}
 use Rattle.star_model.specs.declared.values.RuleValue.TheVariants as is
 use Rattle.star_model.specs.declared.rules.RuleFile.{RuleFile}
 use Rattle.star_model.specs.declared.rules.Which.TheVariants as which
-use Rattle.spelling.proofs.Laws.{same_self}
 use Rattle.heap_plan.specs.Small.{heap_derivation}
 use Rattle.heap_plan.specs.HeapStars.{heap_alternative, heap_access_root}
 use Rattle.heap_plan.specs.HeapAccess.{heap_access, heap_vars}
 use Rattle.heap_plan.proofs.Parts.{small_query}
+use Rattle.star_model.proofs.Laws.{same_self}
 
 -- of a heap access on the only quantifier, under these formulas
 abbrev pub heap_vector : Query → Formula → Formula → Props
@@ -99,8 +101,8 @@ module _ (rules : RuleFile) (number : ℕ) (named : star_named rules (codes "Acc
       ∙ ap (λ b. vector_or n (if b then Some (heap_vector q cost rescan) else None)) is_of_goal
 
   pub judged : judge_root q rules heap_derivation ≡ Vector (heap_vector q cost rescan)
-  unfolding judge is_chain set_of has places satisfies begins
-  judged = ap (λ j. if_valid j (λ v. vector_or 1 (option_and_then (only_if (λ w. satisfies w (root_requirement q))) (Some v)))) (goal_judged 2)
+  unfolding judge is_chain set_of has places satisfies begins canon
+  judged = ap (λ j. if_valid j (λ v. vector_or 1 (option_and_then (only_if (λ w. satisfies q w (root_requirement q))) (Some v)))) (goal_judged 2)
 
 -- what code makes is the derivation
 pub made_heap : made.Glue [] (made.Goal (record { tables = single 0; pushed = 0 }) None (made.Reference (codes "AccessRoot") 1 [] (made.Leaf flavour.AccessHeap))) ≡ heap_derivation

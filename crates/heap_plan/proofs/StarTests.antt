@@ -18,9 +18,9 @@ use Rattle.star_model.specs.declared.rules.PlanExpr.TheVariants as plan
 use Rattle.star_model.specs.declared.rules.StarDef.{StarDef}
 use Rattle.star_model.specs.declared.rules.ValueExpr.{ValueExpr}
 use Rattle.star_model.specs.declared.rules.ValueExpr.TheVariants as value
-use Rattle.spelling.proofs.Laws.{same_are}
 use Rattle.heap_plan.specs.HeapStars.{stream, preds, heap_alternative, heap_access_root, heap_join_root, IsHeapStar}
 use Rattle.heap_plan.specs.HeapTests.{is_param, is_variable, are_heap_values, is_heap_body, is_no_range, is_no_condition, are_heap_alternatives, are_access_params, are_join_params, is_heap_access_root, is_heap_join_root, is_other_star}
+use Rattle.star_model.proofs.Laws.{same_are}
 
 left : (a b : Bool) → (a && b) ≡ true → a ≡ true
 left true b h = refl

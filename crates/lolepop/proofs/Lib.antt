@@ -4,5 +4,6 @@ mod UsedColumns
 mod NoInput
 mod DerivedLaws
 mod FitLaws
+mod StepLaws
 mod ServeLaws
 pub mod Laws

@@ -1,7 +1,7 @@
 // When operators are applicable: a row of the table of operators each.
 
 ghost use Rattle.std.specs.Prelude.{◌≡◌, [], ◌∷◌};
-ghost use Rattle.star_model.specs.Operators.{may_apply, may_hash, each_touches};
+ghost use Rattle.star_model.specs.Operators.{may_apply, may_hash, is_sorted_by, each_touches};
 ghost use Rattle.star_model.specs.WellFormed.{WellFormedQuery};
 ghost use Rattle.lolepop.specs.Inputs.{vectors};
 
@@ -13,7 +13,9 @@ use crate::inputs::Inputs;
 use crate::own_columns::{has_columns_of, index_serves};
 use crate::predicates::preds_in;
 use crate::results::tables_after;
+use property_vector::canon;
 use query_graph::{home, keys, touches};
+use star_model::columns::ColList;
 use star_model::plans::{Op, Props};
 use star_model::query::Query;
 use star_model::sets::PredSet;
@@ -90,8 +92,8 @@ fn may_join(query: &Query, op: &Op, left: &Props, right: &Props) -> bool
         Op::JoinNl { preds } => may_loop(query, left, right, *preds),
         Op::JoinMerge { merge, preds } => {
             may_hash(query, left, right, *merge, *preds)
-                && left.order.begins_with(&keys(query, *merge, left.tables))
-                && right.order.begins_with(&keys(query, *merge, right.tables))
+                && is_sorted_by(query, &keys(query, *merge, left.tables), left)
+                && is_sorted_by(query, &keys(query, *merge, right.tables), right)
         }
         Op::JoinHash { merge, preds } => may_hash(query, left, right, *merge, *preds),
         Op::AccessHeap { .. }
@@ -103,6 +105,16 @@ fn may_join(query: &Query, op: &Op, left: &Props, right: &Props) -> bool
         | Op::Ship { .. }
         | Op::Probe { .. } => false,
     }
+}
+
+// Whether the input's order begins with these columns, in the form that they have under its predicates.
+fn is_sorted_by(query: &Query, columns: &ColList, input: &Props) -> bool
+    requires { WellFormedQuery query.now }
+    ensures { result ≡ is_sorted_by query.now columns.now input.now }
+{
+    input
+        .order
+        .begins_with(&canon(query, input.tables, input.preds, columns))
 }
 
 // A nested loop: the outer input has the columns of its own that the inner one's predicates use.

@@ -1,13 +1,14 @@
 // The properties of operators' results, but for their two costs: a column of the table of operators each.
 
 ghost use Rattle.std.specs.Prelude.{◌≡◌, true};
-ghost use Rattle.star_model.specs.Operators.{tables_after, preds_after, order_after, site_after, temp_after, path_after, cols_after, may_apply, unpriced};
+ghost use Rattle.star_model.specs.Operators.{tables_after, preds_after, sorted_by, order_after, site_after, temp_after, path_after, cols_after, may_apply, unpriced};
 ghost use Rattle.star_model.specs.WellFormed.{WellFormedQuery};
 ghost use Rattle.lolepop.specs.Inputs.{vectors};
 ghost use Rattle.lolepop.specs.UsedColumns.{used_among};
 
 use crate::arguments::applied;
 use crate::inputs::Inputs;
+use property_vector::canon;
 use query_graph::{card, home, index_columns, used};
 use star_model::columns::{ColList, ColSet, Site};
 use star_model::num::Num;
@@ -37,8 +38,9 @@ fn preds_after(op: &Op, inputs: &Inputs<'_>) -> PredSet
     inputs.preds_beside(applied(op))
 }
 
-fn order_after(query: &Query, op: &Op, inputs: &Inputs<'_>) -> ColList
-    ensures { result ≡ order_after query.now op.now (vectors inputs.now) }
+// The columns by which the rows ascend.
+fn sorted_by(query: &Query, op: &Op, inputs: &Inputs<'_>) -> ColList
+    ensures { result ≡ sorted_by query.now op.now (vectors inputs.now) }
 {
     match op {
         Op::AccessHeap { .. } | Op::JoinHash { .. } => ColList::new(),
@@ -51,6 +53,20 @@ fn order_after(query: &Query, op: &Op, inputs: &Inputs<'_>) -> ColList
         | Op::JoinNl { .. }
         | Op::JoinMerge { .. } => inputs.first_order(),
     }
+}
+
+// Their form under the predicates of the result.
+fn order_after(query: &Query, op: &Op, inputs: &Inputs<'_>) -> ColList
+    requires { WellFormedQuery query.now }
+    ensures { result ≡ order_after query.now op.now (vectors inputs.now) }
+{
+    let columns = sorted_by(query, op, inputs);
+    canon(
+        query,
+        tables_after(op, inputs),
+        preds_after(op, inputs),
+        &columns,
+    )
 }
 
 fn site_after(query: &Query, op: &Op, inputs: &Inputs<'_>) -> Site

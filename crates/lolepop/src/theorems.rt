@@ -3,7 +3,8 @@
 ghost use Rattle.std.specs.Prelude.{◌≡◌, true, List as Seq, [], ◌∷◌, Some, ◌↔◌};
 ghost use Rattle.star_model.specs.Operators.{step};
 ghost use Rattle.star_model.specs.Plans.{vector, op_of};
-ghost use Rattle.star_model.specs.Vectors.{is_better, satisfies};
+ghost use Rattle.star_model.specs.Vectors.{is_better};
+ghost use Rattle.star_model.specs.Requirements.{satisfies};
 ghost use Rattle.star_model.specs.Exchange.{CostsPass, HasCard, MayStandFor, ChainsAreExchangeable};
 ghost use Rattle.star_model.specs.DerivCases as deriv;
 ghost use Rattle.star_model.specs.declared.derivations.Deriv.TheVariants as made;
@@ -53,5 +54,5 @@ pub fn better_inputs_serve()
     ensures two { (q : Query) (costs : Seq CostEntry) → CostsPass costs → (o : Op) (u v w x : Props) → MayStandFor q u v → MayStandFor q w x
         → (r : Props) → step q costs o (v ∷ x ∷ []) ≡ Some r → (s : Props) × (step q costs o (u ∷ w ∷ []) ≡ Some s) × (is_better s r ≡ true) }
     ensures chains { ChainsAreExchangeable }
-    ensures satisfying { (u v : Props) (r : Require) → is_better u v ≡ true → satisfies v r ≡ true → satisfies u r ≡ true }
+    ensures satisfying { (q : Query) (u v : Props) (r : Require) → is_better u v ≡ true → satisfies q v r ≡ true → satisfies q u r ≡ true }
 {}

@@ -1,2 +1,3 @@
+mod CanonWalks
 mod Antisymmetry
 pub mod Laws

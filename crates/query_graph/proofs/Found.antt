@@ -9,8 +9,8 @@ use Rattle.star_model.specs.Vectors.{same_numbers}
 use Rattle.star_model.specs.WellFormed.{differ}
 use Rattle.spelling.specs.Lexemes.{Every}
 use Rattle.spelling.specs.Names.{place_of, is_among, all_of}
-use Rattle.spelling.proofs.Laws.{same_are}
 use Rattle.query_graph.proofs.Lists.{same_numbers_comm, is_some-place_of}
+use Rattle.star_model.proofs.Laws.{same_are}
 
 -- ---- options
 

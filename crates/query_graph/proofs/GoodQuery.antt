@@ -36,7 +36,7 @@ use Rattle.query_graph.proofs.Formed.{formed_table}
 use Rattle.query_graph.proofs.Found.{then_some, some_same, all_at, get_map, place_within, all_parts, all_length}
 use Rattle.query_graph.proofs.Meaning.{table_names, quantifier_parts, names_of_quantifiers}
 use Rattle.query_graph.proofs.FormedQuery.{Parts, predicate_parts}
-use Rattle.spelling.proofs.Laws.{same_self}
+use Rattle.star_model.proofs.Laws.{same_self}
 
 -- ---- lists of options, read backwards
 

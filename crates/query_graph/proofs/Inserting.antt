@@ -6,7 +6,7 @@ use Rattle.std.proofs.lemmas.Bool.{and_parts}
 use Rattle.indexmap.specs.IndexSet.{insert_key}
 use Rattle.star_model.specs.Vectors.{same_numbers}
 use Rattle.spelling.specs.Queries.{Item, quantifier_name}
-use Rattle.spelling.proofs.Laws.{same_are}
+use Rattle.star_model.proofs.Laws.{same_are}
 
 pub or-false : (a b : Bool) → (a || (b || false)) ≡ (a || b)
 or-false true b = refl

@@ -8,12 +8,12 @@ use Rattle.indexmap.specs.IndexSet.{insert_key}
 use Rattle.star_model.specs.Vectors.{same_numbers}
 use Rattle.star_model.specs.WellFormed.{differ}
 use Rattle.spelling.specs.Queries.{quantifier_name}
-use Rattle.spelling.proofs.Laws.{same_are}
 use Rattle.query_graph.specs.declared.words.ItemWords.{ItemWords}
 use Rattle.query_graph.specs.Words.{said_item}
 use Rattle.query_graph.specs.Faults.{quantifier_names}
 use Rattle.query_graph.proofs.Inserting.{list_any-insert_key, or-false}
 use Rattle.query_graph.proofs.Lists.{same_numbers_comm}
+use Rattle.star_model.proofs.Laws.{same_are}
 
 one_step : (all same_ others any : Bool) → ((all && (not same_ && true)) && (others && not any)) ≡ ((all && others) && not (same_ || any))
 one_step true true true any = refl

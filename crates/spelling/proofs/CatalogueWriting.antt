@@ -16,7 +16,7 @@ use Rattle.star_model.specs.declared.catalogue.IndexDef.{IndexDef}
 use Rattle.spelling.specs.Lexemes.{IsStatements, Every, HasItem}
 use Rattle.spelling.specs.Names.{place_of, all_of}
 use Rattle.spelling.specs.Catalogues.{CatalogueStatement, Site, with_statements, nothing_defined, catalogue_of, name_at, site_names, table_names, column_names, column_names_at, table_statement, index_statement, catalogue_statements, catalogue_lexemes, HasColumns, SpellsCatalogue}
-use Rattle.spelling.proofs.Statements.{same_self}
+use Rattle.star_model.proofs.Laws.{same_self}
 
 -- ---- a name that no other is stands at its own place
 

@@ -10,8 +10,9 @@ use Rattle.spelling.specs.Reading.{given, a_word, the_symbol}
 use Rattle.spelling.specs.ReadingCases.{then_reads, pass, given_reads}
 use Rattle.spelling.specs.RuleWords.{flavour_of}
 use Rattle.spelling.specs.FormulaHeads.{which_of, FormulaHead, formula_head_at}
-use Rattle.spelling.proofs.ReadingLaws.{same_are, a_word_reads, the_symbol_reads}
+use Rattle.spelling.proofs.ReadingLaws.{a_word_reads, the_symbol_reads}
 use Rattle.spelling.proofs.RuleWordLaws.{flavour_found, flavour_named}
+use Rattle.star_model.proofs.Laws.{same_are}
 
 which_named : (which : Which) → which_of (which_word which) ≡ Some which
 unfolding which_of

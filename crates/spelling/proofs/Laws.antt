@@ -1,5 +1,5 @@
 -- The laws that other crates may cite. Each is the clause of a function of the module `theorems`.
-pub use Rattle.spelling.proofs.Statements.{one_list, statements_of_tokens, same_self}
+pub use Rattle.spelling.proofs.Statements.{one_list, statements_of_tokens}
 pub use Rattle.spelling.proofs.WritingLaws.{written-spaced, ended-line, lines-layout, puts-none, puts-more, puts-append, lines-none, lines-more, lines-append, writing}
 pub use Rattle.spelling.proofs.PrintedLists.{joined-first}
 pub use Rattle.spelling.proofs.LayoutLaws.{statements_of_layout}
@@ -15,7 +15,7 @@ pub use Rattle.spelling.proofs.FormulaLaws.{one_formula, canonical_formula, form
 pub use Rattle.spelling.proofs.FormulaSizes.{few_nodes}
 pub use Rattle.spelling.proofs.SmallestTexts.{canonical_formula_def, tiny_is_spelled, one_table, one_column}
 pub use Rattle.spelling.proofs.RuleLaws.{one_formula_def, one_rule_file}
-pub use Rattle.spelling.proofs.ReadingLaws.{same_are, the_word_reads, the_symbol_reads, a_word_reads, a_number_reads, a_text_reads, then_reads}
+pub use Rattle.spelling.proofs.ReadingLaws.{the_word_reads, the_symbol_reads, a_word_reads, a_number_reads, a_text_reads, then_reads}
 pub use Rattle.spelling.proofs.RuleWriting.{written_rules_spell, canonical_rules}
 pub use Rattle.spelling.proofs.RootWriting.{root_can_be_written, plan_text_spells}
 pub use Rattle.spelling.proofs.ValueReading.{value_is_read}

@@ -2,6 +2,7 @@
 use Rattle.std.proofs.Common.{◌≡◌, ℕ, zero, suc, ◌+◌, ◌<◌, Bool, true, false, if◌then◌else◌, List, [], ◌∷◌, ◌++◌, map, length, Some, None, codes, refl, sym, ap, ◌∙◌, arith, length-append, eq-eqb}
 use Rattle.std.proofs.lemmas.Bool.{and_parts}
 use Rattle.std.specs.List.{list_all, find}
+use Rattle.star_model.specs.Costs.{flavours}
 use Rattle.star_model.specs.PlanExprCases as expr
 use Rattle.star_model.specs.Vectors.{same_numbers}
 use Rattle.star_model.specs.declared.rules.PlanExpr.{PlanExpr}
@@ -16,14 +17,15 @@ use Rattle.spelling.specs.Values.{reserved_in_rules, IsName, call, value_lexemes
 use Rattle.spelling.specs.Rules.{plan_lexemes, arguments_of, IsOperator, IsPlan}
 use Rattle.spelling.specs.Reading.{Reader, ◌>>=◌, given, the_symbol}
 use Rattle.spelling.specs.SeriesReadingCases.{IsRead, series_read, each_short}
-use Rattle.spelling.specs.RuleWords.{all_flavours, flavour_of, name_of}
+use Rattle.spelling.specs.RuleWords.{flavour_of, name_of}
 use Rattle.spelling.specs.ValueReading.{NoSquare, value_at}
 use Rattle.spelling.specs.PlanReading.{arguments_at, own_arguments_at, more_arguments_at, reference_at, glue_at, leaf_at, unary_at, inputs_at, joined_at, binary_at, behind_word, plan_by, plan_at}
-use Rattle.spelling.proofs.ReadingLaws.{same_are, the_symbol_reads}
+use Rattle.spelling.proofs.ReadingLaws.{the_symbol_reads}
 use Rattle.spelling.proofs.RuleWordLaws.{flavour_named, name_given}
 use Rattle.spelling.proofs.ValueReading.{value_is_read}
 use Rattle.spelling.proofs.Bracketed.{one_ends, two_ends}
 use Rattle.spelling.proofs.PlanBrackets.{values, behind_one, unary_ends, binary_ends}
+use Rattle.star_model.proofs.Laws.{same_are}
 
 -- ---- words
 
@@ -50,7 +52,7 @@ not_written {A} word_of (x ∷ xs) name all free =
 
 no_flavour : (name : List ℕ) → IsName name → flavour_of name ≡ None
 unfolding flavour_of
-no_flavour name free = not_written flavour_word all_flavours name refl free
+no_flavour name free = not_written flavour_word flavours name refl free
 
 -- ---- arguments
 

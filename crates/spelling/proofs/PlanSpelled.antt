@@ -16,11 +16,12 @@ use Rattle.spelling.specs.SeriesReadingCases.{Spells, series_spelled}
 use Rattle.spelling.specs.RuleWords.{flavour_of, name_of}
 use Rattle.spelling.specs.ValueReading.{value_at}
 use Rattle.spelling.specs.PlanReading.{counted, arguments_at, own_arguments_at, more_arguments_at, reference_at, glue_at, leaf_at, unary_at, inputs_at, joined_at, binary_at, operator_at, behind_word, plan_by, plan_at}
-use Rattle.spelling.proofs.ReadingLaws.{same_are, the_symbol_reads, a_word_reads}
+use Rattle.spelling.proofs.ReadingLaws.{the_symbol_reads, a_word_reads}
 use Rattle.spelling.proofs.RuleWordLaws.{flavour_found, name_is}
 use Rattle.spelling.proofs.ValueSpelled.{value_is_spelled}
 use Rattle.spelling.proofs.Bracketed.{one_ends, two_ends}
 use Rattle.spelling.proofs.PlanBrackets.{values, unary_ends, binary_ends, at_most_two}
+use Rattle.star_model.proofs.Laws.{same_are}
 
 -- ---- symbols
 

@@ -7,17 +7,7 @@ use Rattle.star_model.specs.Vectors.{same_numbers}
 use Rattle.spelling.specs.Lexemes.{Lexeme, Word, Number, Text, Symbol}
 use Rattle.spelling.specs.Reading.{the_word, the_symbol, a_word, a_number, a_text}
 pub use Rattle.spelling.specs.ReadingCases.{then_reads}
-use Rattle.spelling.proofs.Statements.{same_self}
-
-pub same_are : (xs ys : List ℕ) → same_numbers xs ys ≡ true → xs ≡ ys
-same_are [] [] same = refl
-same_are [] (y ∷ ys) same = cc
-same_are (x ∷ xs) [] same = cc
-same_are (x ∷ xs) (y ∷ ys) same =
-    let both = and_parts (nat_eq x y) (same_numbers xs ys) same in
-    let head : x ≡ y = eqb-true x y both.0 in
-    let tail = same_are xs ys both.1 in
-    ap (λ z. z ∷ xs) head ∙ ap (λ zs. y ∷ zs) tail
+use Rattle.star_model.proofs.Laws.{same_are, same_self}
 
 pub the_word_reads : (wanted : List ℕ) (lexemes rest : List Lexeme) → (the_word wanted lexemes ≡ Some (tt, rest)) ↔ (lexemes ≡ Word wanted ∷ rest)
 the_word_reads wanted lexemes rest = (to lexemes, λ is. rw is (rw (same_self wanted) refl))

@@ -34,7 +34,7 @@ use Rattle.spelling.specs.ValueReading.{value_heads, value_head, requirement_hea
 use Rattle.spelling.specs.ConditionReading as test
 use Rattle.spelling.specs.ConditionReading.{condition_heads, condition_head}
 use Rattle.spelling.proofs.FreeNames.{not_found}
-use Rattle.spelling.proofs.ReadingLaws.{same_are}
+use Rattle.star_model.proofs.Laws.{same_are}
 
 -- a word that stands for something is the one that spells it
 module _ {A : Type 0} (other : A) (spell : A → List ℕ) where

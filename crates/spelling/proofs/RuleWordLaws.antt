@@ -1,6 +1,7 @@
 -- The words of the rule language stand for what is written by them.
 use Rattle.std.proofs.Common.{◌≡◌, ℕ, Bool, true, false, if◌then◌else◌, List, [], ◌∷◌, Option, Some, None, refl, sym, ap, ◌∙◌}
 use Rattle.std.specs.List.{find}
+use Rattle.star_model.specs.Costs.{flavours}
 use Rattle.star_model.specs.Vectors.{same_numbers}
 use Rattle.star_model.specs.declared.rules.Flavour.{Flavour}
 use Rattle.star_model.specs.declared.rules.Flavour.TheVariants as flavour
@@ -12,8 +13,9 @@ use Rattle.spelling.specs.Flavours.{flavour_word, kind_word}
 use Rattle.spelling.specs.Values.{reserved_in_rules, IsName}
 use Rattle.spelling.specs.Reading.{given, a_word}
 use Rattle.spelling.specs.ReadingCases.{then_reads, given_reads}
-use Rattle.spelling.specs.RuleWords.{all_flavours, flavour_of, all_kinds, kind_of_word, name_of, free_word, kind_at}
-use Rattle.spelling.proofs.ReadingLaws.{same_are, a_word_reads}
+use Rattle.spelling.specs.RuleWords.{flavour_of, all_kinds, kind_of_word, name_of, free_word, kind_at}
+use Rattle.spelling.proofs.ReadingLaws.{a_word_reads}
+use Rattle.star_model.proofs.Laws.{same_are}
 
 -- what is found is written so
 written : {A : Type 0} (word_of : A → List ℕ) (xs : List A) (word : List ℕ) (x : A) → find (λ y. same_numbers (word_of y) word) xs ≡ Some x → word_of x ≡ word
@@ -31,7 +33,7 @@ written {A} word_of (y ∷ ys) word x found = at (same_numbers (word_of y) word)
 
 pub flavour_found : (word : List ℕ) (f : Flavour) → flavour_of word ≡ Some f → flavour_word f ≡ word
 unfolding flavour_of
-flavour_found word f found = written flavour_word all_flavours word f found
+flavour_found word f found = written flavour_word flavours word f found
 
 pub flavour_named : (f : Flavour) → flavour_of (flavour_word f) ≡ Some f
 unfolding flavour_of

@@ -15,8 +15,8 @@ use Rattle.spelling.specs.Values.{value_lexemes, IsValue}
 use Rattle.spelling.specs.Rules as spec
 use Rattle.spelling.specs.Rules.{plan_lexemes, IsPlan, formula_def_lexemes, SpellsFormulaDef, SpellsDefinitions, SpellsRules}
 use Rattle.spelling.specs.Tiny.{tiny_lexemes, tiny_rules}
-use Rattle.spelling.proofs.Statements.{same_self}
 use Rattle.spelling.proofs.FormulaLaws.{canonical_formula}
+use Rattle.star_model.proofs.Laws.{same_self}
 
 pub canonical_formula_def : (d : FormulaDef) → SpellsFormulaDef d.statement (formula_def_lexemes d) d
 canonical_formula_def d = record { number = refl; formula = _; are = refl; spelled = canonical_formula d.formula }

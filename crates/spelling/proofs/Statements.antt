@@ -5,6 +5,7 @@ use Rattle.sb_text.specs.declared.token.Token.{Token}
 use Rattle.sb_text.specs.Tokens.{Lexed, lexed}
 use Rattle.sb_text.specs.Statements.{Part, parts}
 use Rattle.star_model.specs.Vectors.{same_numbers}
+use Rattle.star_model.proofs.Laws.{same_self}
 
 -- a map that tells items apart tells lists of them apart
 pub same_lists : {A B : Type 0} (f : A → B) (Ok : A → Type 0) → ((x y : A) → Ok x → Ok y → f x ≡ f y → x ≡ y)
@@ -31,10 +32,6 @@ un_ended s t e = ap (λ (m : MaybeEnded). m.0) e
 
 pub one_list : (text : List ℕ) (a b : List (List Lexeme)) → IsStatements text a → IsStatements text b → a ≡ b
 one_list text a b p q = same_maps ended un_ended a b (sym p.are ∙ q.are)
-
-pub same_self : (a : List ℕ) → same_numbers a a ≡ true
-same_self [] = refl
-same_self (x ∷ a) = rw (eq-eqb x x refl, same_self a) refl
 
 -- words that are spelled otherwise
 pub differ : (a b : List ℕ) → same_numbers a b ≡ false → Word a ≡ Word b → ⊥

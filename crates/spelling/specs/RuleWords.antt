@@ -2,23 +2,18 @@
 use Rattle.std.specs.Prelude.{ℕ, List, [], ◌∷◌, Option, Some, None, if◌then◌else◌}
 use Rattle.std.specs.List.{find}
 use Rattle.star_model.specs.declared.rules.Flavour.{Flavour}
-use Rattle.star_model.specs.declared.rules.Flavour.TheVariants as flavour
 use Rattle.star_model.specs.declared.rules.Kind.{Kind}
 use Rattle.star_model.specs.declared.rules.Kind.TheVariants as kind
+use Rattle.star_model.specs.Costs.{flavours}
 use Rattle.star_model.specs.Vectors.{same_numbers}
 use Rattle.spelling.specs.Names.{is_among}
 use Rattle.spelling.specs.Flavours.{flavour_word, kind_word}
 use Rattle.spelling.specs.Values.{reserved_in_rules}
 use Rattle.spelling.specs.Reading.{Reader, ◌>>=◌, a_word, given}
 
-abbrev pub all_flavours : List Flavour
-all_flavours =
-    flavour.AccessHeap ∷ flavour.AccessIndex ∷ flavour.Get ∷ flavour.Filter ∷ flavour.Sort ∷ flavour.Store ∷ flavour.Ship ∷ flavour.Probe
-    ∷ flavour.JoinNl ∷ flavour.JoinMerge ∷ flavour.JoinHash ∷ []
-
 -- the operator that is so called
 unfoldable pub flavour_of : List ℕ → Option Flavour
-flavour_of word = find (λ f. same_numbers (flavour_word f) word) all_flavours
+flavour_of word = find (λ f. same_numbers (flavour_word f) word) flavours
 
 abbrev pub all_kinds : List Kind
 all_kinds = kind.Stream ∷ kind.Quants ∷ kind.Preds ∷ kind.Cols ∷ kind.Site ∷ kind.Index ∷ []

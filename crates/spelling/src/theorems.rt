@@ -200,11 +200,6 @@ pub fn readers_read()
     ensures a_text { (lexemes rest : List Lexeme) (bytes : List ℕ) → (a_text lexemes ≡ Some (bytes, rest)) ↔ (lexemes ≡ Text bytes ∷ rest) }
 {}
 
-/// The test of bytes decides that they are the same.
-pub fn same_numbers_are_same()
-    ensures { (a b : List ℕ) → (same_numbers a b ≡ true) ↔ (a ≡ b) }
-{}
-
 /// A spelled value is read where enough may be open inside one another and no square bracket follows, and nothing else is read.
 pub fn values_are_read()
     ensures read { (scope : List (List ℕ)) (n : ℕ) (v : ValueExpr) (rest : List Lexeme) → IsValue scope v → length (value_lexemes v) < n → NoSquare rest → value_at scope n (value_lexemes v ++ rest) ≡ Some (v, rest) }

@@ -23,8 +23,9 @@ use Rattle.spelling.specs.Lexemes.{Every}
 use Rattle.star_check.proofs.AcceptedLaws.{no_glue_below}
 use Rattle.star_check.proofs.Bodies.{opened}
 use Rattle.star_check.proofs.Named.{is_there, passes_name, its_name, own_name}
-use Rattle.star_check.proofs.Owned.{any_at, same_self, fails}
+use Rattle.star_check.proofs.Owned.{any_at, fails}
 use Rattle.star_check.proofs.Reached.{refers_where}
+use Rattle.star_model.proofs.Laws.{same_self}
 
 every_from : {A : Type 0} (P : A → Type 0) (xs : List A) → ((i : ℕ) (x : A) → slice_get xs i ≡ Some x → P x) → Every P xs
 every_from P [] each = tt

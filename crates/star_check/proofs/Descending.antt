@@ -15,11 +15,11 @@ use Rattle.star_model.specs.declared.rules.Alternative.{Alternative}
 use Rattle.star_model.specs.declared.rules.StarDef.{StarDef}
 use Rattle.star_model.specs.declared.rules.ValueExpr.{ValueExpr}
 use Rattle.star_model.specs.declared.rules.RuleFile.{RuleFile}
-use Rattle.spelling.proofs.Laws.{same_are}
 use Rattle.star_check.specs.Heights.{height_named, refers_below}
 use Rattle.star_check.proofs.Named.{position_of, stands, is_there, its_name, own_name}
 use Rattle.star_check.proofs.Walks.{any_map, every_at, any_and_all, all_in_bodies}
-use Rattle.star_check.proofs.Owned.{any_at, same_self, fails, names_are_known}
+use Rattle.star_check.proofs.Owned.{any_at, fails, names_are_known}
+use Rattle.star_model.proofs.Laws.{same_are, same_self}
 
 -- ---- how many of the first positions aren't passed yet
 

@@ -2,7 +2,7 @@
 use Rattle.std.proofs.Common.{◌≡◌, ℕ, ◌+◌, ◌<◌, ◌≤◌, ◌≢◌, lit<, length, Bool, true, false, ◌||◌, if◌then◌else◌, List, [], ◌∷◌, map, refl, sym, ap, ◌∙◌, arith}
 use Rattle.std.specs.Prelude.{Option, Some, None, is_none, not, ◌&&◌, slice_get}
 use Rattle.std.specs.List.{list_any, flat_map, find}
-use Rattle.star_model.specs.Costs.{row_of, same_flavour, same_which, formula_of}
+use Rattle.star_model.specs.Costs.{row_of, flavours, same_flavour, same_which, formula_of}
 use Rattle.star_model.specs.Accepted.{operators_in, bodies_of, is_used, lacks_formula}
 use Rattle.star_model.specs.declared.rules.Flavour.{Flavour}
 use Rattle.star_model.specs.declared.rules.Flavour.TheVariants.{AccessHeap, AccessIndex, Get, Filter, Sort, Store, Ship, Probe, JoinNl, JoinMerge, JoinHash}
@@ -10,7 +10,8 @@ use Rattle.star_model.specs.declared.rules.Which.{Which}
 use Rattle.star_model.specs.declared.rules.Which.TheVariants as which
 use Rattle.star_model.specs.declared.rules.FormulaDef.{FormulaDef}
 use Rattle.star_model.specs.declared.rules.RuleFile.{RuleFile}
-use Rattle.star_check.specs.FileFaults.{is_of_glue, flavours, IsMissingFormula}
+use Rattle.star_model.proofs.Laws.{one_row}
+use Rattle.star_check.specs.FileFaults.{is_of_glue, IsMissingFormula}
 use Rattle.std.proofs.lemmas.Bool.{false≢true}
 use Rattle.star_check.proofs.Walks.{any_flat_map, any_map}
 
@@ -42,22 +43,6 @@ lacking rules f = λ i. is_used rules f && (no_formula f which.Cost rules.formul
 
 -- ---- the first operator that lacks one
 
-in_table : (f : Flavour) → slice_get flavours (row_of f) ≡ Some f
-in_table AccessHeap = refl
-in_table AccessIndex = refl
-in_table Get = refl
-in_table Filter = refl
-in_table Sort = refl
-in_table Store = refl
-in_table Ship = refl
-in_table Probe = refl
-in_table JoinNl = refl
-in_table JoinMerge = refl
-in_table JoinHash = refl
-
-pub same_row : (f g : Flavour) → row_of f ≡ row_of g → f ≡ g
-same_row f g e = let t : Some f ≡ Some g = sym (in_table f) ∙ ap (slice_get flavours) e ∙ in_table g in cc
-
 -- the operators of this list have the rows from this one on
 HaveRows : ℕ → List Flavour → Type 0
 HaveRows n [] = Unit {0}
@@ -66,7 +51,7 @@ HaveRows n (f ∷ fs) = (row_of f ≡ n) × HaveRows (n + 1) fs
 -- an item of a row from this one on is the first, or of a row from the next on
 from_next : (test : Flavour → Bool) (n : ℕ) (x g : Flavour) → row_of x ≡ n → test x ≡ false → test g ≡ true → n ≤ row_of g → n + 1 ≤ row_of g
 from_next test n x g is fails passes low =
-    let other : row_of g ≢ n = (λ e. let t : test g ≡ test x = ap test (same_row g x (e ∙ sym is)) in false≢true (sym fails ∙ sym t ∙ passes)) in omega (arith, other, low)
+    let other : row_of g ≢ n = (λ e. let t : test g ≡ test x = ap test (one_row g x (e ∙ sym is)) in false≢true (sym fails ∙ sym t ∙ passes)) in omega (arith, other, low)
 
 found : (test : Flavour → Bool) (n : ℕ) (fs : List Flavour) (f : Flavour) → HaveRows n fs → find test fs ≡ Some f
     → (test f ≡ true) × ((g : Flavour) → test g ≡ true → n ≤ row_of g → row_of f ≤ row_of g)

@@ -10,12 +10,11 @@ use Rattle.std.proofs.lemmas.Option.{slice_get-get_or}
 use Rattle.star_model.specs.Sets.{has}
 use Rattle.star_model.specs.Vectors.{same_numbers}
 use Rattle.star_model.specs.Accepted.{glues_in, Reaches, IsInCycle, HasGlueInAccess}
-use Rattle.star_model.proofs.Laws.{has-zero}
+use Rattle.star_model.proofs.Laws.{has-zero, same_are}
 use Rattle.star_model.specs.declared.rules.Alternative.{Alternative}
 use Rattle.star_model.specs.declared.rules.ValueExpr.{ValueExpr}
 use Rattle.star_model.specs.declared.rules.StarDef.{StarDef}
 use Rattle.star_model.specs.declared.rules.RuleFile.{RuleFile}
-use Rattle.spelling.proofs.Laws.{same_are}
 use Rattle.star_check.specs.declared.found.Found.{Found}
 use Rattle.star_check.specs.Findings.{IsOwn}
 use Rattle.star_check.specs.Reaching.{AreReached}

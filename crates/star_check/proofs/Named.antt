@@ -7,9 +7,9 @@ use Rattle.star_model.specs.Stars.{star_named}
 use Rattle.star_model.specs.Vectors.{same_numbers}
 use Rattle.star_model.specs.declared.rules.StarDef.{StarDef}
 use Rattle.star_model.specs.declared.rules.RuleFile.{RuleFile}
-use Rattle.spelling.proofs.Laws.{same_are}
 use Rattle.star_check.proofs.Places.{find_passes}
 use Rattle.star_check.proofs.Owned.{contains_at}
+use Rattle.star_model.proofs.Laws.{same_are}
 
 abbrev pub position_of : RuleFile → List ℕ → ℕ
 position_of rules name = position_or_len (λ t. same_numbers t.name name) rules.stars

@@ -21,9 +21,9 @@ use Rattle.star_model.specs.declared.rules.StarDef.{StarDef}
 use Rattle.star_model.specs.declared.rules.FormulaDef.{FormulaDef}
 use Rattle.star_model.specs.declared.rules.RuleFile.{RuleFile}
 use Rattle.spelling.specs.RuleLimits.{WellFormedRules}
-use Rattle.spelling.proofs.Laws.{same_are}
 use Rattle.star_check.specs.Owning.{NamesAreOwn, NamesAreKnown, FormulasAreOwn}
 use Rattle.star_check.proofs.Places.{Place, place, find_passes, find_none}
+use Rattle.star_model.proofs.Laws.{same_are, same_self}
 
 pub fails : (b : Bool) → (b ≡ true → ⊥) → b ≡ false
 fails true never = absurd (never refl)
@@ -36,9 +36,6 @@ any_at p (y ∷ ys) (suc i) x at h = ap (λ b. p y || b) (any_at p ys i x at h) 
 
 pub contains_at : {A : Type 0} (xs : List A) (i : ℕ) (x : A) → slice_get xs i ≡ Some x → Contains xs x
 contains_at xs i x at = (i, slice_get_within xs i x at, get_or_from_slice_get xs i x x at)
-
-pub same_self : (xs : List ℕ) → same_numbers xs xs ≡ true
-same_self xs = nat_list_eq_equiv.refl xs
 
 -- ---- the STARs' statements have numbers of their own
 

@@ -21,12 +21,12 @@ use Rattle.star_model.specs.declared.rules.PlanExpr.TheVariants as made
 use Rattle.star_model.specs.AcceptedEquations.{references_in-Binary}
 use Rattle.std.proofs.lemmas.List.Sums.{fold-append}
 use Rattle.star_model.specs.declared.rules.RuleFile.{RuleFile}
-use Rattle.spelling.proofs.Laws.{same_are}
 use Rattle.star_check.specs.Owning.{NamesAreOwn, NamesAreKnown}
 use Rattle.star_check.specs.Sizes.{size_among, greater, next_height, next_weight, found_over}
 use Rattle.star_check.specs.declared.found.Found.{Found}
 use Rattle.star_check.specs.Findings.{IsOwn}
 use Rattle.star_check.proofs.Places.{find_passes, looked_up}
+use Rattle.star_model.proofs.Laws.{same_are}
 
 map_agree : {A B : Type 0} (f g : A → B) (xs : List A) → ((i : ℕ) (x : A) → slice_get xs i ≡ Some x → f x ≡ g x) → map f xs ≡ map g xs
 map_agree f g [] same = refl

@@ -23,9 +23,3 @@ IsMissingFormula rules (Some f) = FirstFlavour rules (lacks_formula rules) f
 -- whether Glue may use the operator
 abbrev pub is_of_glue : Flavour → Bool
 is_of_glue f = list_any (same_flavour f) (flavour.Sort ∷ flavour.Store ∷ flavour.Ship ∷ [])
-
--- the operators in the order of their table
-abbrev pub flavours : List Flavour
-flavours =
-    flavour.AccessHeap ∷ flavour.AccessIndex ∷ flavour.Get ∷ flavour.Filter ∷ flavour.Sort ∷ flavour.Store ∷ flavour.Ship ∷ flavour.Probe ∷ flavour.JoinNl ∷ flavour.JoinMerge
-    ∷ flavour.JoinHash ∷ []

@@ -4,7 +4,7 @@ ghost use Rattle.std.specs.List.{list_any, find};
 ghost use Rattle.star_model.specs.Costs.{same_flavour, same_which};
 ghost use Rattle.star_model.specs.Accepted.{operators_in, is_used, lacks_formula};
 ghost use Rattle.star_model.specs.declared.rules.Which.TheVariants as which;
-ghost use Rattle.star_check.specs.FileFaults.{is_of_glue, flavours, IsMissingFormula};
+ghost use Rattle.star_check.specs.FileFaults.{is_of_glue, IsMissingFormula};
 
 use star_model::rules::{Alternative, Flavour, FormulaDef, PlanExpr, RuleFile, StarDef, Which};
 

@@ -7,7 +7,9 @@ use Rattle.star_model.proofs.BetterLaws.{parts, begins_trans, temp_trans}
 use Rattle.star_model.proofs.ExchangeLaws.{has_price, if_some, operators_exchange}
 use Rattle.star_model.proofs.JudgeLaws.{bind}
 use Rattle.star_model.specs.Costs.{formula_of}
-use Rattle.star_model.specs.Vectors.{is_at, is_better, satisfies}
+use Rattle.star_model.specs.Vectors.{begins, is_better}
+use Rattle.star_model.specs.Canon.{canon}
+use Rattle.star_model.specs.Requirements.{is_at, satisfies}
 use Rattle.star_model.specs.Operators.{step, may_apply, each_touches, unpriced, vars_of, flavour_of}
 use Rattle.star_model.specs.Plans.{vector, chain_vector, op_of}
 use Rattle.star_model.specs.Exchange.{HasCard, MayStandFor, ChainsAreExchangeable}
@@ -52,11 +54,14 @@ chains_exchange q costs pass r (o ∷ os) u v h w e =
     (c.0, ap (option_and_then (chain_vector q costs r os)) b.1 ∙ c.1, c.2)
 
 -- a better vector satisfies what the other does
-pub better_satisfies : (u v : Props) (r : Require) → is_better u v ≡ true → satisfies v r ≡ true → satisfies u r ≡ true
+pub better_satisfies : (q : Query) (u v : Props) (r : Require) → is_better u v ≡ true → satisfies q v r ≡ true → satisfies q u r ≡ true
 unfolding satisfies
-better_satisfies u v r h k =
+better_satisfies q u v r h k =
     let p = parts u v h in
     let a = both _ _ k in let b = both _ _ a.0 in let c = both _ _ b.0 in
     let site : v.site.0 ≡ u.site.0 = sym (eqb-true _ _ p.site) in
-    and _ _ (and _ _ (and _ _ (begins_trans r.order v.order u.order c.0 p.order) ((λ i. is_at r.site (record { 0 = sym site i })) ∙ c.1)) (temp_trans u.temp v.temp r.temp p.temp b.1))
+    let preds : v.preds ≡ u.preds = sym (eqb-true _ _ p.preds) in
+    let tables : v.tables ≡ u.tables = sym (eqb-true _ _ p.tables) in
+    let order : begins (canon q u.preds u.tables r.order) v.order ≡ true = (λ i. begins (canon q (sym preds i) (sym tables i) r.order) v.order) ∙ c.0 in
+    and _ _ (and _ _ (and _ _ (begins_trans (canon q u.preds u.tables r.order) v.order u.order order p.order) ((λ i. is_at r.site (record { 0 = sym site i })) ∙ c.1)) (temp_trans u.temp v.temp r.temp p.temp b.1))
     (begins_trans r.path v.path u.path a.1 p.path)

@@ -1,14 +1,34 @@
--- A list of formulas with an entry more.
-use Rattle.std.proofs.Common.{◌≡◌, Bool, true, false, ◌&&◌, List, [], ◌∷◌, ◌++◌, refl, ap, sym, ◌∙◌, if◌then◌else◌}
-use Rattle.std.specs.Prelude.{Option, Some, None}
+-- Operators are told apart by their rows in the table; a list of formulas with an entry more.
+use Rattle.std.proofs.Common.{◌≡◌, ℕ, Bool, true, false, ◌&&◌, List, [], ◌∷◌, ◌++◌, refl, ap, sym, ◌∙◌, if◌then◌else◌}
+use Rattle.std.specs.Prelude.{Option, Some, None, slice_get}
 use Rattle.std.proofs.lemmas.Bool.{eqb-true, eq-eqb}
 use Rattle.star_model.proofs.BoolLaws.{both, and}
-use Rattle.star_model.specs.Costs.{row_of, same_flavour, same_which, formula_of}
+use Rattle.star_model.specs.Costs.{row_of, flavours, same_flavour, same_which, formula_of}
 use Rattle.star_model.specs.declared.costs.CostEntry.{CostEntry}
 use Rattle.star_model.specs.declared.formula.Formula.{Formula}
 use Rattle.star_model.specs.declared.rules.Flavour.{Flavour}
+use Rattle.star_model.specs.declared.rules.Flavour.TheVariants.{AccessHeap, AccessIndex, Get, Filter, Sort, Store, Ship, Probe, JoinNl, JoinMerge, JoinHash}
 use Rattle.star_model.specs.declared.rules.Which.{Which}
 use Rattle.star_model.specs.declared.rules.Which.TheVariants.{Cost, Rescan}
+
+in_table : (f : Flavour) → slice_get flavours (row_of f) ≡ Some f
+in_table AccessHeap = refl
+in_table AccessIndex = refl
+in_table Get = refl
+in_table Filter = refl
+in_table Sort = refl
+in_table Store = refl
+in_table Ship = refl
+in_table Probe = refl
+in_table JoinNl = refl
+in_table JoinMerge = refl
+in_table JoinHash = refl
+
+pub one_row : (f g : Flavour) → row_of f ≡ row_of g → f ≡ g
+one_row f g e = let t : Some f ≡ Some g = sym (in_table f) ∙ ap (slice_get flavours) e ∙ in_table g in cc
+
+pub one_flavour : (f g : Flavour) → same_flavour f g ≡ true → f ≡ g
+one_flavour f g h = one_row f g (eqb-true (row_of f) (row_of g) h)
 
 flavours_meet : (f g h : Flavour) → same_flavour f h ≡ true → same_flavour g h ≡ true → same_flavour f g ≡ true
 flavours_meet f g h p q = eq-eqb _ _ (eqb-true (row_of f) (row_of h) p ∙ sym (eqb-true (row_of g) (row_of h) q))

@@ -6,7 +6,7 @@ use Rattle.std.specs.Option.{option_map, option_map_or, option_or}
 use Rattle.std.proofs.lemmas.List.Folds.{find-append}
 use Rattle.star_model.proofs.JudgeLaws.{valid_from, valid_to}
 use Rattle.star_model.specs.Costs.{costs_of}
-use Rattle.star_model.specs.Vectors.{satisfies}
+use Rattle.star_model.specs.Requirements.{satisfies}
 use Rattle.star_model.specs.Operators.{step}
 use Rattle.star_model.specs.Plans.{chain_vector}
 use Rattle.star_model.specs.Goals.{is_target}
@@ -127,7 +127,7 @@ module _ (q : Query) (rules : RuleFile) where
   unfolding judge judged_nodes parts_valid
   first (Glue chain d) x n =
       top_first (Glue chain d) x n (option_map_or (λ g. judged_nodes q rules d g.1 (n + 1)) (as_glue q chain x) [])
-      ∙ one_part (is_valid q rules (Glue chain d) x) n d (λ g. g.1) (λ g v. option_and_then (only_if (λ w. satisfies w g.0)) (chain_vector q (costs_of rules) g.0 chain v)) (as_glue q chain x) (agrees (Glue chain d) x n) (first d)
+      ∙ one_part (is_valid q rules (Glue chain d) x) n d (λ g. g.1) (λ g v. option_and_then (only_if (λ w. satisfies q w g.0)) (chain_vector q (costs_of rules) g.0 chain v)) (as_glue q chain x) (agrees (Glue chain d) x n) (first d)
   first (Goal g split d) x n =
       top_first (Goal g split d) x n (option_map_or (λ y. judged_nodes q rules d y (n + 1)) (goal_body g split x) [])
       ∙ one_part (is_valid q rules (Goal g split d) x) n d (λ y. y) (λ y v. only_if (is_target q g.tables g.pushed) v) (goal_body g split x) (agrees (Goal g split d) x n) (first d)

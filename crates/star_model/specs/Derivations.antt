@@ -2,7 +2,8 @@
 use Rattle.std.specs.Prelude.{◌≡◌, ℕ, ◌≤◌, Bool, true, false, ◌&&◌, List, Option, Some, option_and_then}
 use Rattle.std.specs.Option.{option_map_or}
 use Rattle.star_model.specs.Costs.{costs_of}
-use Rattle.star_model.specs.Vectors.{satisfies, is_better}
+use Rattle.star_model.specs.Requirements.{satisfies}
+use Rattle.star_model.specs.Vectors.{is_better}
 use Rattle.star_model.specs.Plans.{vector, is_chain, chain_over}
 use Rattle.star_model.specs.Goals.{is_target}
 use Rattle.star_model.specs.Expected.{Expected, ForGoal, as_glue, goal_body, reference_body, as_leaf, as_unary, as_binary, query_goal, root_requirement}
@@ -35,7 +36,7 @@ module _ (q : Query) (rules : RuleFile) where
   -- whether the tree is valid against x: its top fits, the trees below are valid, and its plan has a vector; that of a Glue
   -- satisfies the requirement, and that of a goal has the goal's target
   unfoldable pub is_valid : Deriv → Expected → Bool
-  is_valid (Glue chain d) x = if_fits (as_glue q chain x) (λ g. is_valid d g.1 && plan_passes (λ w. satisfies w g.0) (plan_of (Glue chain d) x))
+  is_valid (Glue chain d) x = if_fits (as_glue q chain x) (λ g. is_valid d g.1 && plan_passes (λ w. satisfies q w g.0) (plan_of (Glue chain d) x))
   is_valid (Goal g split d) x = if_fits (goal_body g split x) (λ y. is_valid d y && plan_passes (is_target q g.tables g.pushed) (plan_of (Goal g split d) x))
   is_valid (Reference star k picks d) x = if_fits (reference_body q rules star k picks x) (is_valid d)
   is_valid (Leaf f) x = plan_passes (λ v. true) (plan_of (Leaf f) x)
@@ -58,7 +59,7 @@ module _ (q : Query) (rules : RuleFile) where
     pub goal_plan : Plan
     pub of_goal : plan_of goal_node (query_goal q) ≡ Some goal_plan
     pub of_plan : vector q (costs_of rules) (chain_over (root_requirement q) chain goal_plan) ≡ Some v
-    pub satisfied : satisfies v (root_requirement q) ≡ true
+    pub satisfied : satisfies q v (root_requirement q) ≡ true
 
   -- a root derivation, and none costs less
   pub record IsLeast (tree : Deriv) (v : Props) : Type 0 where

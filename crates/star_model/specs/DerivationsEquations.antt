@@ -5,7 +5,7 @@ use denote.Hole.Carrier.{hidden}
 use Rattle.star_model.specs.declared.derivations.Deriv.TheBlock.{hidden-the_row-Deriv-0}
 use Rattle.star_model.specs.declared.derivations.Deriv.TheVariants as made
 use Rattle.std.specs.Prelude.{true, ◌&&◌, Some, option_and_then}
-use Rattle.star_model.specs.Vectors.{satisfies}
+use Rattle.star_model.specs.Requirements.{satisfies}
 use Rattle.star_model.specs.Plans.{chain_over}
 use Rattle.star_model.specs.Goals.{is_target}
 use Rattle.star_model.specs.Expected.{Expected, as_glue, goal_body, reference_body, as_leaf, as_unary, as_binary}
@@ -43,7 +43,7 @@ pub plan_of-Binary : (q : Query) (rules : RuleFile) (f : Flavour) (d : Deriv) (e
 unfolding plan_of hidden-the_row-Deriv-0 hidden
 plan_of-Binary q rules f d e x = refl
 
-pub is_valid-Glue : (q : Query) (rules : RuleFile) (chain : List GlueOp) (d : Deriv) (x : Expected) → is_valid q rules (made.Glue chain d) x ≡ (if_fits q rules (as_glue q chain x) (λ g. is_valid q rules d g.1 && plan_passes q rules (λ w. satisfies w g.0) (plan_of q rules (Glue chain d) x)))
+pub is_valid-Glue : (q : Query) (rules : RuleFile) (chain : List GlueOp) (d : Deriv) (x : Expected) → is_valid q rules (made.Glue chain d) x ≡ (if_fits q rules (as_glue q chain x) (λ g. is_valid q rules d g.1 && plan_passes q rules (λ w. satisfies q w g.0) (plan_of q rules (Glue chain d) x)))
 unfolding is_valid hidden-the_row-Deriv-0 hidden
 is_valid-Glue q rules chain d x = refl
 

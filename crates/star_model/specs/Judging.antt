@@ -1,7 +1,7 @@
 -- One walk over a derivation that finds its vector, or its first invalid node in preorder.
 use Rattle.std.specs.Prelude.{◌≡◌, Result, Ok, Err, ℕ, ◌+◌, Bool, if◌then◌else◌, [], ◌∷◌, Option, Some, None, option_and_then}
 use Rattle.star_model.specs.Costs.{costs_of}
-use Rattle.star_model.specs.Vectors.{satisfies}
+use Rattle.star_model.specs.Requirements.{satisfies}
 use Rattle.star_model.specs.Operators.{step}
 use Rattle.star_model.specs.Plans.{chain_vector}
 use Rattle.star_model.specs.Goals.{is_target}
@@ -47,7 +47,7 @@ module _ (q : Query) (rules : RuleFile) where
   -- of a tree that stands against x, and whose top is node n
   unfoldable pub judge : Deriv → Expected → ℕ → Judgement
   judge (Glue chain d) x n =
-      fitting n (as_glue q chain x) (λ g. if_valid (judge d g.1 (n + 1)) (λ v. vector_or n (option_and_then (only_if (λ w. satisfies w g.0)) (chain_vector q (costs_of rules) g.0 chain v))))
+      fitting n (as_glue q chain x) (λ g. if_valid (judge d g.1 (n + 1)) (λ v. vector_or n (option_and_then (only_if (λ w. satisfies q w g.0)) (chain_vector q (costs_of rules) g.0 chain v))))
   judge (Goal g split d) x n =
       fitting n (goal_body g split x) (λ y. if_valid (judge d y (n + 1)) (λ v. vector_or n (only_if (is_target q g.tables g.pushed) v)))
   judge (Reference star k picks d) x n = fitting n (reference_body q rules star k picks x) (λ y. judge d y (n + 1))

@@ -6,7 +6,7 @@ use Rattle.star_model.specs.declared.derivations.Deriv.TheBlock.{hidden-the_row-
 use Rattle.star_model.specs.declared.derivations.Deriv.TheVariants as made
 use Rattle.std.specs.Prelude.{◌+◌, ◌∷◌, option_and_then}
 use Rattle.star_model.specs.Costs.{costs_of}
-use Rattle.star_model.specs.Vectors.{satisfies}
+use Rattle.star_model.specs.Requirements.{satisfies}
 use Rattle.star_model.specs.Operators.{step}
 use Rattle.star_model.specs.Plans.{chain_vector}
 use Rattle.star_model.specs.Goals.{is_target}
@@ -43,7 +43,7 @@ pub node_count-Binary : (f : Flavour) (d : Deriv) (e : Deriv) → node_count (ma
 unfolding node_count hidden-the_row-Deriv-0 hidden
 node_count-Binary f d e = refl
 
-pub judge-Glue : (q : Query) (rules : RuleFile) (chain : List GlueOp) (d : Deriv) (x : Expected) (n : ℕ) → judge q rules (made.Glue chain d) x n ≡ (fitting n (as_glue q chain x) (λ g. if_valid (judge q rules d g.1 (n + 1)) (λ v. vector_or n (option_and_then (only_if (λ w. satisfies w g.0)) (chain_vector q (costs_of rules) g.0 chain v)))))
+pub judge-Glue : (q : Query) (rules : RuleFile) (chain : List GlueOp) (d : Deriv) (x : Expected) (n : ℕ) → judge q rules (made.Glue chain d) x n ≡ (fitting n (as_glue q chain x) (λ g. if_valid (judge q rules d g.1 (n + 1)) (λ v. vector_or n (option_and_then (only_if (λ w. satisfies q w g.0)) (chain_vector q (costs_of rules) g.0 chain v)))))
 unfolding judge hidden-the_row-Deriv-0 hidden
 judge-Glue q rules chain d x n = refl
 

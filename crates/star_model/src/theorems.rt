@@ -1,13 +1,16 @@
 // The laws of the definitions, each the clause of a function that does nothing.
 
-ghost use Rattle.std.specs.Prelude.{◌≡◌, ◌≢◌, ℕ, ◌<◌, ◌≤◌, ◌+◌, ◌-◌, ◌*◌, ◌^◌, max, Bool, true, false, ◌&&◌, ◌||◌, not, nat_eq, ◌↔◌, List as Seq, [], ◌∷◌, ◌++◌, Some, None, if◌then◌else◌, replicate, length, map};
+ghost use Rattle.std.specs.Prelude.{◌≡◌, ◌≢◌, ℕ, ◌<◌, ◌≤◌, ◌+◌, ◌-◌, ◌*◌, ◌^◌, max, Bool, true, false, ◌&&◌, ◌||◌, not, nat_eq, ◌↔◌, List as Seq, [], ◌∷◌, ◌++◌, Some, None, if◌then◌else◌, replicate, length, map, All, IsSortedBy};
 ghost use Rattle.std.specs.List.{count_by, list_all};
 ghost use Rattle.star_model.specs.Numbers.{top, cut_sum, cut_difference, cut_product, cut_quotient, quotient_up};
 ghost use Rattle.star_model.specs.Sets.{has, set_of, single, union, meet, minus, is_within, size, splits, is_pair, IsSplit};
 ghost use Rattle.star_model.specs.Columns.{Columns, has_column, columns_where, union_columns, is_column_at, with_column, is_columns_within};
 ghost use Rattle.star_model.specs.Monotone.{passes, first_offending, IsMonotone};
-ghost use Rattle.star_model.specs.Costs.{formula_of, costs_of, same_flavour, same_which};
-ghost use Rattle.star_model.specs.Vectors.{is_better, satisfies, same_column};
+ghost use Rattle.star_model.specs.Costs.{row_of, formula_of, costs_of, same_flavour, same_which};
+ghost use Rattle.star_model.specs.Vectors.{begins, is_better, same_column, same_numbers};
+ghost use Rattle.star_model.specs.Requirements.{satisfies};
+ghost use Rattle.star_model.specs.Canon.{ColPair, AreEqual, is_lower, least_equal, canon};
+ghost use Rattle.star_model.specs.Answers.{Data, Assignment, IsAnswer, is_earlier};
 ghost use Rattle.star_model.specs.Exchange.{HasCard, IsExchangeable, ChainsAreExchangeable};
 ghost use Rattle.star_model.specs.Kinds.{MeansItsKind, kind_of, kind_of_range, kind_of_value};
 ghost use Rattle.star_model.specs.Meaning.{meaning, as_stream, member_at, members_of};
@@ -15,6 +18,7 @@ ghost use Rattle.star_model.specs.Streams.{tables_pass, has_tables};
 ghost use Rattle.star_model.specs.WellFormed.{WellFormedQuery, Each};
 ghost use Rattle.star_model.specs.Plans.{vector};
 ghost use Rattle.star_model.specs.Expected.{Expected};
+ghost use Rattle.star_model.specs.Goals.{is_target};
 ghost use Rattle.star_model.specs.Derivations.{plan_of, is_valid, HasVector, IsRoot};
 ghost use Rattle.star_model.specs.Judging.{Vector, judge, judge_root, invalid_number};
 ghost use Rattle.star_model.specs.InvalidNodes.{first_invalid};
@@ -147,6 +151,24 @@ pub fn better_is_an_order()
     ensures antisymmetric { (v w : Props) → is_better v w ≡ true → is_better w v ≡ true → record v { card = w.card } ≡ w }
 {}
 
+/// A better vector costs no more, and it has the target of each goal whose target the other has.
+pub fn better_plans_serve_the_goal()
+    ensures cost { (v w : Props) → is_better v w ≡ true → v.cost ≤ w.cost }
+    ensures target { (q : Query) (s j : ℕ) (v w : Props) → is_better v w ≡ true → is_target q s j w ≡ true → is_target q s j v ≡ true }
+{}
+
+/// The test of two lists of numbers decides that they are one.
+pub fn lists_that_are_the_same_are_one()
+    ensures one { (xs ys : Seq ℕ) → same_numbers xs ys ≡ true → xs ≡ ys }
+    ensures itself { (xs : Seq ℕ) → same_numbers xs xs ≡ true }
+{}
+
+/// Operators that have one row of the table are one, and so are those that the test finds the same.
+pub fn operators_have_rows_of_their_own()
+    ensures row { (f g : Flavour) → row_of f ≡ row_of g → f ≡ g }
+    ensures same { (f g : Flavour) → same_flavour f g ≡ true → f ≡ g }
+{}
+
 /// In one query the tables and predicates of a plan fix its number of rows.
 pub fn plans_have_the_estimate()
     ensures { (q : Query) (costs : Seq CostEntry) (p : Plan) (v : Props) → vector q costs p ≡ Some v → HasCard q v }
@@ -157,7 +179,30 @@ pub fn plans_have_the_estimate()
 pub fn better_inputs_serve()
     ensures operators { IsExchangeable }
     ensures chains { ChainsAreExchangeable }
-    ensures satisfying { (u v : Props) (r : Require) → is_better u v ≡ true → satisfies v r ≡ true → satisfies u r ≡ true }
+    ensures satisfying { (q : Query) (u v : Props) (r : Require) → is_better u v ≡ true → satisfies q v r ≡ true → satisfies q u r ≡ true }
+{}
+
+/// The least equal column is equal to the column by a chain of equalities, and no equal column is lower.
+pub fn least_equal_columns_are_least()
+    ensures equal { (pairs : Seq ColPair) (x : Col) → AreEqual pairs x (least_equal pairs x) }
+    ensures least { (pairs : Seq ColPair) (x y : Col) → AreEqual pairs x y → is_lower y (least_equal pairs x) ≡ false }
+{}
+
+/// Of two members of an answer one is earlier by a list of columns exactly where it is by the list's canonical form; so a list of
+/// members is sorted by the one exactly where it is by the other.
+pub fn canonical_orders_sort_alike()
+    ensures earlier { (q : Query) (data_ : Data) (s preds : ℕ) → s < 2 ^ 32 → (outer : Assignment) (cols : Seq Col) (a b : Assignment) → IsAnswer q data_ s preds outer a → IsAnswer q data_ s preds outer b
+        → is_earlier q data_ (canon q preds s cols) a b ≡ is_earlier q data_ cols a b }
+    ensures sorted { (q : Query) (data_ : Data) (s preds : ℕ) → s < 2 ^ 32 → (outer : Assignment) (cols : Seq Col) (list : Seq Assignment) → All (IsAnswer q data_ s preds outer) list
+        → IsSortedBy (is_earlier q data_ (canon q preds s cols)) list ↔ IsSortedBy (is_earlier q data_ cols) list }
+{}
+
+/// The canonical form of a prefix is a prefix of the canonical form; and where more equalities hold, the canonical form of a canonical
+/// form is that of the list.
+pub fn canonical_orders_keep_prefixes()
+    ensures prefix { (q : Query) (preds s : ℕ) (xs ys : Seq Col) → begins xs ys ≡ true → begins (canon q preds s xs) (canon q preds s ys) ≡ true }
+    ensures again { (q : Query) (preds more s t : ℕ) → ((n : ℕ) → has preds n ≡ true → has more n ≡ true) → ((n : ℕ) → has s n ≡ true → has t n ≡ true)
+        → (cols : Seq Col) → canon q more t (canon q preds s cols) ≡ canon q more t cols }
 {}
 
 /// A well-kinded expression means a value of its kind.

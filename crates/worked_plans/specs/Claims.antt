@@ -5,7 +5,8 @@ use Rattle.std.specs.Option.{option_map}
 use Rattle.star_model.specs.Formulas.{value}
 use Rattle.star_model.specs.Monotone.{passes, first_offending}
 use Rattle.star_model.specs.Meaning.{meaning, holds, members_of}
-use Rattle.star_model.specs.Vectors.{is_better, satisfies}
+use Rattle.star_model.specs.Requirements.{satisfies}
+use Rattle.star_model.specs.Vectors.{is_better}
 use Rattle.star_model.specs.Cardinality.{card}
 use Rattle.star_model.specs.Costs.{costs_of}
 use Rattle.star_model.specs.Operators.{step}
@@ -168,8 +169,8 @@ abbrev pub AreBetterAs : List (Props × Props × Bool) → Type 0
 AreBetterAs rows = map (λ row. is_better row.0 row.1) rows ≡ map (λ row. row.2) rows
 
 -- whether vectors satisfy requirements
-abbrev pub SatisfyAs : List (Props × Require × Bool) → Type 0
-SatisfyAs rows = map (λ row. satisfies row.0 row.1) rows ≡ map (λ row. row.2) rows
+abbrev pub SatisfyAs : Query → List (Props × Require × Bool) → Type 0
+SatisfyAs query rows = map (λ row. satisfies query row.0 row.1) rows ≡ map (λ row. row.2) rows
 
 -- whether vectors have the target of a goal
 abbrev pub MeetAs : Query → List (ℕ × ℕ × Props × Bool) → Type 0

@@ -189,7 +189,7 @@ join_nl_of_cities_under_standard =
     ∷ ((op.JoinNl 1), (dept_of_cities_under_standard ∷ emp_of_cities_under_standard ∷ []), Some (record { tables = 3; cols = (3 ∷ 3 ∷ 0 ∷ 0 ∷ 0 ∷ 0 ∷ 0 ∷ 0 ∷ 0 ∷ 0 ∷ 0 ∷ 0 ∷ []); preds = 1; order = []; site = record { 0 = 0 }; temp = false; path = []; card = 1000; cost = 20020; rescan = 20020 }))
     ∷ ((op.JoinNl 0), (dept_of_cities_under_standard ∷ emp_of_cities_under_standard ∷ []), Some (record { tables = 3; cols = (3 ∷ 3 ∷ 0 ∷ 0 ∷ 0 ∷ 0 ∷ 0 ∷ 0 ∷ 0 ∷ 0 ∷ 0 ∷ 0 ∷ []); preds = 0; order = []; site = record { 0 = 0 }; temp = false; path = []; card = 10000; cost = 20020; rescan = 20020 }))
     ∷ ((op.JoinNl 1), (emp_of_cities_under_standard ∷ dept_of_cities_under_standard ∷ []), Some (record { tables = 3; cols = (3 ∷ 3 ∷ 0 ∷ 0 ∷ 0 ∷ 0 ∷ 0 ∷ 0 ∷ 0 ∷ 0 ∷ 0 ∷ 0 ∷ []); preds = 1; order = []; site = record { 0 = 0 }; temp = false; path = []; card = 1000; cost = 22000; rescan = 22000 }))
-    ∷ ((op.JoinNl 1), (by_index_of_cities_under_standard ∷ dept_of_cities_under_standard ∷ []), Some (record { tables = 3; cols = (3 ∷ 3 ∷ 0 ∷ 0 ∷ 0 ∷ 0 ∷ 0 ∷ 0 ∷ 0 ∷ 0 ∷ 0 ∷ 0 ∷ []); preds = 1; order = (record { quant = record { 0 = 1 }; column = 1 } ∷ record { quant = record { 0 = 1 }; column = 0 } ∷ []); site = record { 0 = 0 }; temp = false; path = []; card = 1000; cost = 21210; rescan = 21210 }))
+    ∷ ((op.JoinNl 1), (by_index_of_cities_under_standard ∷ dept_of_cities_under_standard ∷ []), Some (record { tables = 3; cols = (3 ∷ 3 ∷ 0 ∷ 0 ∷ 0 ∷ 0 ∷ 0 ∷ 0 ∷ 0 ∷ 0 ∷ 0 ∷ 0 ∷ []); preds = 1; order = (record { quant = record { 0 = 0 }; column = 0 } ∷ record { quant = record { 0 = 1 }; column = 0 } ∷ []); site = record { 0 = 0 }; temp = false; path = []; card = 1000; cost = 21210; rescan = 21210 }))
     ∷ ((op.JoinNl 0), (pushed_of_cities_under_standard ∷ dept_of_cities_under_standard ∷ []), None)
     ∷ ((op.JoinNl 0), (dept_of_cities_under_standard ∷ dept_of_cities_under_standard ∷ []), None)
     ∷ ((op.JoinNl 1), (sorted_of_cities_under_standard ∷ pushed_of_cities_under_standard ∷ []), Some (record { tables = 3; cols = (3 ∷ 3 ∷ 0 ∷ 0 ∷ 0 ∷ 0 ∷ 0 ∷ 0 ∷ 0 ∷ 0 ∷ 0 ∷ 0 ∷ []); preds = 1; order = (record { quant = record { 0 = 0 }; column = 0 } ∷ []); site = record { 0 = 0 }; temp = false; path = []; card = 1000; cost = 1360; rescan = 1360 }))
@@ -219,7 +219,7 @@ probe_of_cities_under_standard =
 abbrev pub join_merge_of_cities_under_standard : List (Op × List Props × Option Props)
 join_merge_of_cities_under_standard =
     ((op.JoinMerge 1 0), (sorted_of_cities_under_standard ∷ by_index_of_cities_under_standard ∷ []), Some (record { tables = 3; cols = (3 ∷ 3 ∷ 0 ∷ 0 ∷ 0 ∷ 0 ∷ 0 ∷ 0 ∷ 0 ∷ 0 ∷ 0 ∷ 0 ∷ []); preds = 1; order = (record { quant = record { 0 = 0 }; column = 0 } ∷ []); site = record { 0 = 0 }; temp = false; path = []; card = 1000; cost = 2280; rescan = 2280 }))
-    ∷ ((op.JoinMerge 1 0), (by_index_of_cities_under_standard ∷ sorted_of_cities_under_standard ∷ []), Some (record { tables = 3; cols = (3 ∷ 3 ∷ 0 ∷ 0 ∷ 0 ∷ 0 ∷ 0 ∷ 0 ∷ 0 ∷ 0 ∷ 0 ∷ 0 ∷ []); preds = 1; order = (record { quant = record { 0 = 1 }; column = 1 } ∷ record { quant = record { 0 = 1 }; column = 0 } ∷ []); site = record { 0 = 0 }; temp = false; path = []; card = 1000; cost = 2280; rescan = 2280 }))
+    ∷ ((op.JoinMerge 1 0), (by_index_of_cities_under_standard ∷ sorted_of_cities_under_standard ∷ []), Some (record { tables = 3; cols = (3 ∷ 3 ∷ 0 ∷ 0 ∷ 0 ∷ 0 ∷ 0 ∷ 0 ∷ 0 ∷ 0 ∷ 0 ∷ 0 ∷ []); preds = 1; order = (record { quant = record { 0 = 0 }; column = 0 } ∷ record { quant = record { 0 = 1 }; column = 0 } ∷ []); site = record { 0 = 0 }; temp = false; path = []; card = 1000; cost = 2280; rescan = 2280 }))
     ∷ ((op.JoinMerge 1 0), (dept_of_cities_under_standard ∷ by_index_of_cities_under_standard ∷ []), None)
     ∷ ((op.JoinMerge 1 0), (sorted_of_cities_under_standard ∷ emp_of_cities_under_standard ∷ []), None)
     ∷ ((op.JoinMerge 0 1), (sorted_of_cities_under_standard ∷ by_index_of_cities_under_standard ∷ []), None)
@@ -511,7 +511,7 @@ abbrev pub join_nl_of_generated_under_variables : List (Op × List Props × Opti
 join_nl_of_generated_under_variables =
     ((op.JoinNl 0), (a_of_generated_under_variables ∷ b_of_generated_under_variables ∷ []), Some (record { tables = 3; cols = (1 ∷ 3 ∷ 0 ∷ 0 ∷ 0 ∷ 0 ∷ 0 ∷ 0 ∷ 0 ∷ 0 ∷ 0 ∷ 0 ∷ []); preds = 1; order = []; site = record { 0 = 0 }; temp = false; path = []; card = 15; cost = 15000000000000001; rescan = 1002013016008024 }))
     ∷ ((op.JoinNl 1), (a_of_generated_under_variables ∷ c_of_generated_under_variables ∷ []), Some (record { tables = 3; cols = (1 ∷ 3 ∷ 0 ∷ 0 ∷ 0 ∷ 0 ∷ 0 ∷ 0 ∷ 0 ∷ 0 ∷ 0 ∷ 0 ∷ []); preds = 1; order = []; site = record { 0 = 0 }; temp = false; path = []; card = 15; cost = 15000000001000001; rescan = 1015013016008024 }))
-    ∷ ((op.JoinNl 1), (c_of_generated_under_variables ∷ a_of_generated_under_variables ∷ []), Some (record { tables = 3; cols = (1 ∷ 3 ∷ 0 ∷ 0 ∷ 0 ∷ 0 ∷ 0 ∷ 0 ∷ 0 ∷ 0 ∷ 0 ∷ 0 ∷ []); preds = 1; order = (record { quant = record { 0 = 1 }; column = 1 } ∷ record { quant = record { 0 = 1 }; column = 0 } ∷ []); site = record { 0 = 0 }; temp = false; path = []; card = 15; cost = 15000000001000001; rescan = 1013015008016024 }))
+    ∷ ((op.JoinNl 1), (c_of_generated_under_variables ∷ a_of_generated_under_variables ∷ []), Some (record { tables = 3; cols = (1 ∷ 3 ∷ 0 ∷ 0 ∷ 0 ∷ 0 ∷ 0 ∷ 0 ∷ 0 ∷ 0 ∷ 0 ∷ 0 ∷ []); preds = 1; order = (record { quant = record { 0 = 0 }; column = 0 } ∷ record { quant = record { 0 = 1 }; column = 0 } ∷ []); site = record { 0 = 0 }; temp = false; path = []; card = 15; cost = 15000000001000001; rescan = 1013015008016024 }))
     ∷ []
 
 abbrev pub join_merge_of_generated_under_variables : List (Op × List Props × Option Props)

@@ -67,7 +67,7 @@ pub fn better_of_cities_under_standard()
 
 /// The rows of `satisfies` for `cities.query`, with the costs of `standard.rules`.
 pub fn satisfies_of_cities_under_standard()
-    ensures { SatisfyAs row.satisfies_of_cities_under_standard }
+    ensures { SatisfyAs query.cities row.satisfies_of_cities_under_standard }
 {}
 
 /// The rows of `target` for `cities.query`, with the costs of `standard.rules`.
@@ -172,7 +172,7 @@ pub fn join_merge_of_french_orders_under_standard()
 
 /// The rows of `satisfies` for `french_orders.query`, with the costs of `standard.rules`.
 pub fn satisfies_of_french_orders_under_standard()
-    ensures { SatisfyAs row.satisfies_of_french_orders_under_standard }
+    ensures { SatisfyAs query.french_orders row.satisfies_of_french_orders_under_standard }
 {}
 
 /// The rows of `better` for `french_orders.query`, with the costs of `standard.rules`.
