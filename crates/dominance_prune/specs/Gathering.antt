@@ -1,5 +1,5 @@
 -- What sets gather of what they are offered.
-use Rattle.std.specs.Prelude.{◌≡◌, List, [], Bool, true, Any, Contains, ◌⊎◌}
+use Rattle.std.specs.Prelude.{◌≡◌, ◌++◌, List, [], Bool, true, Any, Contains, ◌⊎◌}
 use Rattle.dominance_prune.specs.Antichains.{IsAntichain}
 
 -- a member outranks x
@@ -15,6 +15,11 @@ pub record Gathers {T : Type 0} (outranks : T → T → Bool) (old new : List T)
 -- what one of the sources makes
 abbrev pub From : {S T : Type 0} → List S → (S → T → Type 0) → T → Type 0
 From {S} sources P x = (s : S) × Contains sources s × P s x
+
+-- A loop over the members of a set has seen some and has the others left, and what the seen ones make was offered.
+pub record Passes {S T : Type 0} (outranks : T → T → Bool) (members seen left : List S) (old new : List T) (P : S → T → Type 0) : Type 0 where
+  pub all : members ≡ seen ++ left
+  pub gathered : Gathers outranks old new (From seen P)
 
 -- of all that has Q, the set has what is outranked by nothing else
 pub record IsFrontier {T : Type 0} (outranks : T → T → Bool) (Q : T → Type 0) (members : List T) : Type 0 where

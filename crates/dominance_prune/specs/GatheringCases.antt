@@ -1,11 +1,11 @@
 -- How sets gather: nothing, one thing after another, what many sources make; and what a frontier has.
 -- (No clause of a function can say so of every property.)
 use Rattle.std.specs.Prelude.{◌≡◌, ℕ, ◌<◌, ◌++◌, List, [], ◌∷◌, Bool, true, false, Contains, ◌⊎◌}
-use Rattle.std.proofs.Common.{sym, subst, inl, inr, ◌∙◌, get_or, arith}
-use Rattle.std.proofs.lemmas.List.{get_or_default}
+use Rattle.std.proofs.Common.{sym, ap, subst, inl, inr, ◌∙◌, get_or, arith, map, append_assoc, Bor}
+use Rattle.std.proofs.lemmas.List.{get_or_default, map-append, append-nil}
 use Rattle.std.proofs.lemmas.List.Elements.{Contains-push, Contains-push_cases, Contains-append_left}
 use Rattle.dominance_prune.specs.Antichains.{IsAntichain}
-use Rattle.dominance_prune.specs.Gathering.{HasAbove, Gathers, From, IsFrontier}
+use Rattle.dominance_prune.specs.Gathering.{HasAbove, Gathers, From, Passes, IsFrontier}
 
 pub nothing_in : {X : Type 0} (x : X) → Contains [] x → ⊥
 nothing_in x h = absurd (omega (arith, h.1))
@@ -55,6 +55,10 @@ module _ {T : Type 0} (outranks : T → T → Bool) where
   pub Gathers-nothing : (Q : T → Type 0) (a : List T) → ((x : T) → Q x → ⊥) → Gathers outranks a a Q
   Gathers-nothing Q a never = Gathers-same (λ _. ⊥) Q a a (λ x h. absurd h) never (Gathers-none a)
 
+  -- all that has Q is outranked by members already
+  pub Gathers-covered : (Q : T → Type 0) (a : List T) → ((x : T) → Q x → HasAbove outranks a x) → Gathers outranks a a Q
+  Gathers-covered Q a covered = record { covers = covered; keeps = λ x h. h; from = λ m h. inl h }
+
   pub Gathers-no_source : {S : Type 0} (P : S → T → Type 0) (a : List T) → Gathers outranks a a (From [] P)
   Gathers-no_source P a = Gathers-nothing (From [] P) a (λ x made. nothing_in made.0 made.1)
 
@@ -70,6 +74,24 @@ module _ {T : Type 0} (outranks : T → T → Bool) where
       split : (x : T) (r : S) → P r x → Contains sources r ⊎ (s ≡ r) → From sources P x ⊎ P s x
       split x r p (inl among) = inl (r, among, p)
       split x r p (inr same) = let Q : S → Type 0 = λ u. P u x in inr (subst Q (sym same) p)
+
+  -- ---- loops over the members of a set
+
+  pub Passes-none : {S : Type 0} (members left : List S) (a : List T) (P : S → T → Type 0) → left ≡ members → Passes outranks members [] left a a P
+  Passes-none members left a P same = record { all = sym same; gathered = Gathers-no_source P a }
+
+  pub Passes-more : {S : Type 0} (members : List S) (yielded : List (Bor S)) (item : Bor S) (left rest : List S) (a b c : List T) (P : S → T → Type 0) → left ≡ item.now ∷ rest
+      → Passes outranks members (map (λ r. r.now) yielded) left a b P → Gathers outranks b c (P item.now) → Passes outranks members (map (λ r. r.now) (yielded ++ item ∷ [])) rest a c P
+  Passes-more members yielded item left rest a b c P next p g = record {
+    all = rw (map-append, append_assoc) (rw (← next) p.all);
+    gathered = rw map-append (Gathers-more P (map (λ r. r.now) yielded) item.now a b c p.gathered g);
+  }
+
+  pub Passes-all : {S : Type 0} (members seen left : List S) (a b : List T) (P : S → T → Type 0) → left ≡ [] → Passes outranks members seen left a b P → Gathers outranks a b (From members P)
+  Passes-all {S} members seen left a b P none p =
+      let same : members ≡ seen = p.all ∙ ap (λ l. seen ++ l) none ∙ append-nil seen in
+      let Q : List S → Type 0 = λ xs. Gathers outranks a b (From xs P) in
+      subst Q (sym same) p.gathered
 
   module _ (transitive : (x y z : T) → outranks x y ≡ true → outranks y z ≡ true → outranks x z ≡ true) where
     -- what was offered stands for all of V, where it has V and some of it outranks each that has V

@@ -1,8 +1,9 @@
 -- Derived plans: a plan with its vectors, and its derivation. What a node of a derivation makes of those below it.
-use Rattle.std.specs.Prelude.{ℕ, Bool, List, [], ◌∷◌, Option}
+use Rattle.std.specs.Prelude.{◌≡◌, ℕ, Bool, true, List, [], ◌∷◌, Option, Some, Contains, option_and_then}
 use Rattle.std.specs.Option.{option_map}
 use Rattle.star_model.specs.Operators.{step}
-use Rattle.star_model.specs.Plans.{op_of}
+use Rattle.star_model.specs.Plans.{op_of, is_chain}
+use Rattle.star_model.specs.Requirements.{satisfies}
 use Rattle.star_model.specs.Vectors.{is_better}
 use Rattle.star_model.specs.DerivCases as deriv
 use Rattle.star_model.specs.declared.derivations.Deriv.TheVariants as made
@@ -15,7 +16,7 @@ use Rattle.star_model.specs.declared.plans.Op.{Op}
 use Rattle.star_model.specs.declared.plans.Props.{Props}
 use Rattle.star_model.specs.declared.plans.Require.{Require}
 use Rattle.star_model.specs.declared.rules.Flavour.{Flavour}
-use Rattle.lolepop.specs.PlanTrees.{PlanTree, Leaf, Unary, Binary, top_vector}
+use Rattle.lolepop.specs.PlanTrees.{PlanTree, Leaf, Unary, Binary, top_vector, Fits}
 
 -- the plan and the derivation, of which nothing here says that they belong together
 pub record DerivedPlan : Type 0 where
@@ -45,6 +46,11 @@ derived_binary q costs f o d e =
 abbrev pub enforced : Query → List CostEntry → Require → GlueOp → DerivedPlan → Option DerivedPlan
 enforced q costs r word e = option_map (λ v. record e { tree = Unary (op_of r word) v e.tree }) (step q costs (op_of r word) (vector_of e ∷ []))
 
+-- the chain over a derived plan, the first operator next to it; none where an operator isn't applicable
+abbrev pub chained : Query → List CostEntry → Require → List GlueOp → DerivedPlan → Option DerivedPlan
+chained q costs r [] e = Some e
+chained q costs r (word ∷ words) e = option_and_then (chained q costs r words) (enforced q costs r word e)
+
 -- ---- nodes with the plan of the one below
 
 abbrev pub under_glue : List GlueOp → DerivedPlan → DerivedPlan
@@ -55,3 +61,14 @@ under_goal goal split e = record e { deriv = deriv.Goal goal split e.deriv }
 
 abbrev pub under_reference : List ℕ → ℕ → List ℕ → DerivedPlan → DerivedPlan
 under_reference star alternative values e = record e { deriv = deriv.Reference star alternative values e.deriv }
+
+-- ---- of sets of derived plans
+
+-- Glue makes the second of the first, by a chain of the requirement
+abbrev pub GluesTo : Query → List CostEntry → Require → DerivedPlan → DerivedPlan → Type 0
+GluesTo q costs r e x =
+    (chain : List GlueOp) × (made : DerivedPlan) × (is_chain r chain ≡ true) × (chained q costs r chain e ≡ Some made) × (satisfies q (vector_of made) r ≡ true) × (x ≡ under_glue chain made)
+
+-- the vectors in each tree are those of its plans
+abbrev pub AllFit : Query → List CostEntry → List DerivedPlan → Type 0
+AllFit q costs plans = (e : DerivedPlan) → Contains plans e → Fits q costs e.tree
