@@ -50,6 +50,11 @@ module _ (q : Query) (rules : RuleFile) where
   binary_nothing f args d e b none x derived =
       let way = binary_way q rules f args b d e x derived in IsFrontier-none is_better_plan (IsDerived q rules (Expression d b)) none way.0 way.2
 
+  pub leaf_exchange : (f : Flavour) (args : List ValueExpr) (b : List RuleValue) (old new : List DerivedPlan) → Gathers is_better_plan old new (LeafWay q (costs_of rules) f args b)
+      → Gathers is_better_plan old new (IsDerived q rules (Expression (plain.Leaf f args) b))
+  leaf_exchange f args b old new g =
+      Gathers-same is_better_plan (LeafWay q (costs_of rules) f args b) (IsDerived q rules (Expression (plain.Leaf f args) b)) old new (leaf_derived q rules f args b) (leaf_way q rules f args b) g
+
 module _ (q : Query) (rules : RuleFile) (pass : CostsPass (costs_of rules)) where
   pub unary_exchange : (f : Flavour) (args : List ValueExpr) (e : PlanExpr) (b : List RuleValue) (inputs old new : List DerivedPlan) → IsBestOf q rules (Expression e b) inputs
       → Gathers is_better_plan old new (From inputs (OverOne q (costs_of rules) f (operator_of f (values_of q b args))))
@@ -71,11 +76,6 @@ module _ (q : Query) (rules : RuleFile) (pass : CostsPass (costs_of rules)) wher
           let s = one_serves q (costs_of rules) pass op (vector_of m.0) (vector_of i) (m.2, has_card q rules (Expression e b) m.0 among, has_card q rules (Expression e b) i derived) (vector_of x) steps.0 in
           let y : DerivedPlan = record { tree = tree.Unary op s.0 m.0.tree; deriv = Unary f m.0.deriv } in
           (y, (m.0, m.1, (unary_gives q (costs_of rules) f op m.0 y).1 (s.1, refl)), s.2)
-
-  pub leaf_exchange : (f : Flavour) (args : List ValueExpr) (b : List RuleValue) (old new : List DerivedPlan) → Gathers is_better_plan old new (LeafWay q (costs_of rules) f args b)
-      → Gathers is_better_plan old new (IsDerived q rules (Expression (plain.Leaf f args) b))
-  leaf_exchange f args b old new g =
-      Gathers-same is_better_plan (LeafWay q (costs_of rules) f args b) (IsDerived q rules (Expression (plain.Leaf f args) b)) old new (leaf_derived q rules f args b) (leaf_way q rules f args b) g
 
   pub binary_exchange : (f : Flavour) (args : List ValueExpr) (d e : PlanExpr) (b : List RuleValue) (lefts rights old new : List DerivedPlan) → IsBestOf q rules (Expression d b) lefts
       → IsBestOf q rules (Expression e b) rights
