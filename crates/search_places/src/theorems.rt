@@ -1,6 +1,6 @@
 // The laws of places, each the clause of a function that does nothing.
 
-ghost use Rattle.std.specs.Prelude.{◌≡◌, ℕ, ◌+◌, ◌<◌, ◌≤◌, List as Seq, [], ◌∷◌, ◌++◌, Option, Some, true, length, slice_get, Contains};
+ghost use Rattle.std.specs.Prelude.{◌≡◌, ℕ, ◌+◌, ◌<◌, ◌≤◌, List as Seq, [], ◌∷◌, ◌++◌, Option, Some, true, length, slice_get, map, Contains};
 ghost use Rattle.star_model.specs.Accepted.{IsAccepted};
 ghost use Rattle.star_model.specs.Expected.{Call, Expression, may_split, root_call, values_of, meets};
 ghost use Rattle.star_model.specs.Goals.{IsGoal};
@@ -45,6 +45,9 @@ pub fn goals_lead_into_bodies()
         → IsWithin s star (i + 1) a a.ranges [] b }
     ensures names { (s : Search) (star : Seq ℕ) (n : ℕ) (a : Alternative) (f : ForAll) (fs : Seq ForAll) (picked : Seq ℕ) (c : Seq RuleValue) → IsWithin s star n a (f ∷ fs) picked c → (m : ℕ)
         → Contains (numbers_of s.query.now c f.range) m → IsWithin s star n a fs (picked ++ (m + 1) ∷ []) (c ++ member_at f.range m ∷ []) }
+    ensures members { (s : Search) (star : Seq ℕ) (n : ℕ) (a : Alternative) (f : ForAll) (fs : Seq ForAll) (picked : Seq ℕ) (c : Seq RuleValue) → IsWithin s star n a (f ∷ fs) picked c
+        → (seen left later : Seq (ℕ × RuleValue)) (m : ℕ) (v : RuleValue) (numbers : Seq ℕ) (next : Seq RuleValue) → map (λ m. (m, member_at f.range m)) (numbers_of s.query.now c f.range) ≡ seen ++ left
+        → left ≡ (m, v) ∷ later → numbers ≡ picked ++ (m + 1) ∷ [] → next ≡ c ++ v ∷ [] → IsWithin s star n a fs numbers next }
     ensures bodies { (s : Search) (star : Seq ℕ) (n : ℕ) (a : Alternative) (picked : Seq ℕ) (c : Seq RuleValue) → IsWithin s star n a [] picked c → meets s.query.now c a.condition ≡ true
         → LeadsTo s (Expression a.body c) }
 {}
