@@ -31,9 +31,9 @@ pub to_body : (s : Search) (star : List ℕ) (n : ℕ) (a : Alternative) (picked
 to_body s star n a picked c w ok =
     let whole : bound s.query.now a.ranges picked w.call ≡ Some c = ap (λ ps. bound s.query.now a.ranges ps w.call) (sym (append-nil picked)) ∙ sym (w.bindings []) in
     let body : body_of s.query.now s.rules.now star w.call n picked ≡ Some (Expression a.body c) =
-        ap (option_and_then (λ (a : Alternative). option_and_then (λ (c : List RuleValue). if meets s.query.now c a.condition then Some (Expression a.body c) else None) (bound s.query.now a.ranges picked w.call))) w.found
-        ∙ ap (option_and_then (λ (c : List RuleValue). if meets s.query.now c a.condition then Some (Expression a.body c) else None)) whole
-        ∙ ap (λ (t : Bool). if t then Some (Expression a.body c) else None) ok in
+    ap (option_and_then (λ (a : Alternative). option_and_then (λ (c : List RuleValue). if meets s.query.now c a.condition then Some (Expression a.body c) else None) (bound s.query.now a.ranges picked w.call))) w.found
+    ∙ ap (option_and_then (λ (c : List RuleValue). if meets s.query.now c a.condition then Some (Expression a.body c) else None)) whole
+    ∙ ap (λ (t : Bool). if t then Some (Expression a.body c) else None) ok in
     leads_further s.query.now s.rules.now (ForGoal s.goal.tables s.goal.pushed) (Call star w.call) (Expression a.body c) w.leads (Below.by_alternative star w.call n picked (Expression a.body c) body)
 
 -- the next name is bound
@@ -69,7 +69,7 @@ member_bound s star n a f fs picked c w seen left later m v numbers next all at 
     let among = among_numbered (member_at f.range) (numbers_of s.query.now c f.range) m v there in
     let bound = one_bound s star n a f fs picked c w m among.0 in
     subst (λ (ns : List ℕ). IsWithin s star n a fs ns next) (sym is_numbers)
-        (subst (λ (vs : List RuleValue). IsWithin s star n a fs (picked ++ (m + 1) ∷ []) vs) (ap (λ (u : RuleValue). c ++ u ∷ []) among.1 ∙ sym is_next) bound)
+    (subst (λ (vs : List RuleValue). IsWithin s star n a fs (picked ++ (m + 1) ∷ []) vs) (ap (λ (u : RuleValue). c ++ u ∷ []) among.1 ∙ sym is_next) bound)
 
 -- ---- the parts of expressions, each with less work
 
@@ -117,4 +117,4 @@ root_is_called s j (Some p) = refl
 pub to_root : (s : Search) (split : Option (ℕ × ℕ)) → may_split s.goal.tables split ≡ true → LeadsTo s (Call (root_of_split split) (root_values s.goal.tables s.goal.pushed split))
 to_root s split may =
     subst (LeadsTo s) (root_is_called s.goal.tables s.goal.pushed split)
-        (further s (ForGoal s.goal.tables s.goal.pushed) (root_call s.goal.tables s.goal.pushed split) (Leads.here (ForGoal s.goal.tables s.goal.pushed)) (Below.by_split s.goal.tables s.goal.pushed split may))
+    (further s (ForGoal s.goal.tables s.goal.pushed) (root_call s.goal.tables s.goal.pushed split) (Leads.here (ForGoal s.goal.tables s.goal.pushed)) (Below.by_split s.goal.tables s.goal.pushed split may))

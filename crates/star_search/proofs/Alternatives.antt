@@ -30,7 +30,7 @@ module _ (q : Query) (rules : RuleFile) (star : List ℕ) (b : List RuleValue) w
       → Gathers is_better_plan new newer (RangesWay q rules star (i + 1) a a.ranges [] b) → Gathers is_better_plan [] newer (FirstWays alternatives (i + 1))
   one_seen alternatives i a new newer at g h =
       Gathers-same is_better_plan (λ x. FirstWays alternatives i x ⊎ RangesWay q rules star (i + 1) a a.ranges [] b x) (FirstWays alternatives (i + 1)) [] newer to back
-          (Gathers-then is_better_plan (FirstWays alternatives i) (RangesWay q rules star (i + 1) a a.ranges [] b) [] new newer g h)
+      (Gathers-then is_better_plan (FirstWays alternatives i) (RangesWay q rules star (i + 1) a a.ranges [] b) [] new newer g h)
     where
       to : (x : DerivedPlan) → FirstWays alternatives i x ⊎ RangesWay q rules star (i + 1) a a.ranges [] b x → FirstWays alternatives (i + 1) x
       to x (inl (k, o, below, there, way)) = (k, o, omega (arith, below), there, way)
@@ -57,9 +57,12 @@ module _ (q : Query) (rules : RuleFile) (star : List ℕ) (b : List RuleValue) w
       none_is h = cc
   placed d named (suc i) a found =
       let here : numbered d.alternatives (suc i) ≡ Some a = sym (ap (option_and_then (λ (s : StarDef). numbered s.alternatives (suc i))) named) ∙ found in
-      let back : suc i - 1 ≡ i = omega arith in
-      (i, omega arith, ap (slice_get d.alternatives) (sym back)
-          ∙ ap (λ (t : Bool). if t then None else slice_get d.alternatives (suc i - 1)) (sym (ne_eqb (suc i) 0 (λ h. let no : ⊥ = omega (arith, h) in no))) ∙ here)
+      let back : suc i - 1 ≡ i = omega arith in (
+        i,
+        omega arith,
+        ap (slice_get d.alternatives) (sym back)
+            ∙ ap (λ (t : Bool). if t then None else slice_get d.alternatives (suc i - 1)) (sym (ne_eqb (suc i) 0 (λ h. let no : ⊥ = omega (arith, h) in no))) ∙ here,
+      )
 
   there_is : (d : StarDef) → star_named rules star ≡ Some d → (i : ℕ) (a : Alternative) → slice_get d.alternatives i ≡ Some a → alternative_of rules star (i + 1) ≡ Some a
   there_is d named i a at =
@@ -67,6 +70,10 @@ module _ (q : Query) (rules : RuleFile) (star : List ℕ) (b : List RuleValue) w
       ap (option_and_then (λ (s : StarDef). numbered s.alternatives (i + 1))) named
       ∙ ap (λ (t : Bool). if t then None else slice_get d.alternatives (i + 1 - 1)) (ne_eqb (i + 1) 0 (λ h. let no : ⊥ = omega (arith, h) in no))
       ∙ ap (slice_get d.alternatives) back ∙ at
+
+  -- some alternative of the STAR makes it
+  abbrev Ways : DerivedPlan → Type 0
+  Ways x = (n : ℕ) × (a : Alternative) × (alternative_of rules star n ≡ Some a) × RangesWay q rules star n a a.ranges [] b x
 
   -- all were seen
   pub all_seen : (d : StarDef) (count : ℕ) (set : List DerivedPlan) → star_named rules star ≡ Some d → length d.alternatives ≤ count → Gathers is_better_plan [] set (FirstWays d.alternatives count)
@@ -77,15 +84,10 @@ module _ (q : Query) (rules : RuleFile) (star : List ℕ) (b : List RuleValue) w
     apart = apart;
   }
     where
-      Ways : DerivedPlan → Type 0
-      Ways x = (n : ℕ) × (a : Alternative) × (alternative_of rules star n ≡ Some a) × RangesWay q rules star n a a.ranges [] b x
-
       to : (x : DerivedPlan) → FirstWays d.alternatives count x → Ways x
-      unfolding Ways
       to x (i, a, below, at, way) = (i + 1, a, there_is d named i a at, way)
 
       back : (x : DerivedPlan) → Ways x → FirstWays d.alternatives count x
-      unfolding Ways
       back x (n, a, found, way) =
           let p = placed d named n a found in
           let within = slice_get_within d.alternatives p.0 a p.2 in
@@ -99,11 +101,7 @@ module _ (q : Query) (rules : RuleFile) (star : List ℕ) (b : List RuleValue) w
     apart = apart;
   }
     where
-      Ways : DerivedPlan → Type 0
-      Ways x = (n : ℕ) × (a : Alternative) × (alternative_of rules star n ≡ Some a) × RangesWay q rules star n a a.ranges [] b x
-
       never : (x : DerivedPlan) → Ways x → ⊥
-      unfolding Ways
       never x (n, a, found, way) = none_is (sym (ap (option_and_then (λ (s : StarDef). numbered s.alternatives n)) unnamed) ∙ found)
         where
           none_is : None ≡ Some a → ⊥

@@ -28,33 +28,33 @@ module _ (s : Search) (stream preds : ValueExpr) (b : List RuleValue) (t : Strea
   own_goal : goal_of s.query.now (as_stream (meaning s.query.now b stream)).tables (as_preds (meaning s.query.now b preds)) ≡ ForGoal g.tables g.pushed
   own_goal =
       let same : goal_of s.query.now t.tables p ≡ goal_of s.query.now (as_stream (meaning s.query.now b stream)).tables (as_preds (meaning s.query.now b preds)) =
-          (λ i. goal_of s.query.now (is_stream i).tables (are_preds i)) in
+      (λ i. goal_of s.query.now (is_stream i).tables (are_preds i)) in
       sym same ∙ is_goal
 
   pub glue_is_held : IsOpen s → LeadsTo s (Expression (made.Glue stream preds) b) → IsHeld s.memo.now g
   unfolding HoldsAsked
-  glue_is_held open leads = open.asked g (Asks.by_glue s.goal.tables s.goal.pushed g.tables g.pushed stream preds b leads own_goal)
+  glue_is_held ready leads = ready.asked g (Asks.by_glue s.goal.tables s.goal.pushed g.tables g.pushed stream preds b leads own_goal)
 
   pub glue_is_there : IsOpen s → LeadsTo s (Expression (made.Glue stream preds) b) → None ≡ plans_at s.memo.now g → ⊥
-  glue_is_there open leads none = subst (λ (o : Option (List DerivedPlan)). IsSome o) (sym none) (glue_is_held open leads)
+  glue_is_there ready leads none = subst (λ (o : Option (List DerivedPlan)). IsSome o) (sym none) (glue_is_held ready leads)
 
   best_there : IsOpen s → (plans : List DerivedPlan) → Some plans ≡ plans_at s.memo.now g → IsBestOf s.query.now s.rules.now (ForGoal g.tables g.pushed) plans
   unfolding HoldsFrontiers
-  best_there open plans at = open.frontiers g plans (sym at)
+  best_there ready plans at = ready.frontiers g plans (sym at)
 
   pub fit_there : IsOpen s → (plans : List DerivedPlan) → Some plans ≡ plans_at s.memo.now g → (costs : List CostEntry) → costs ≡ costs_of s.rules.now → AllFit s.query.now costs plans
-  fit_there open plans at costs are =
-      subst (λ (cs : List CostEntry). AllFit s.query.now cs plans) (sym are) (best_fit s.query.now s.rules.now (ForGoal g.tables g.pushed) plans (best_there open plans at))
+  fit_there ready plans at costs are =
+      subst (λ (cs : List CostEntry). AllFit s.query.now cs plans) (sym are) (best_fit s.query.now s.rules.now (ForGoal g.tables g.pushed) plans (best_there ready plans at))
 
   pub glue_done : CostsPass (costs_of s.rules.now) → IsOpen s → (plans : List DerivedPlan) → Some plans ≡ plans_at s.memo.now g → (costs : List CostEntry) → costs ≡ costs_of s.rules.now
       → (r : Result (List DerivedPlan) AllocError) → IfOk r (IsFrontier is_better_plan (From plans (GluesTo s.query.now costs t.require)))
       → IfOk r (IsBestOf s.query.now s.rules.now (Expression (made.Glue stream preds) b))
-  glue_done pass open plans at costs are (Err x) h = h
-  glue_done pass open plans at costs are (Ok set) h =
+  glue_done pass ready plans at costs are (Err x) h = h
+  glue_done pass ready plans at costs are (Ok set) h =
       let glues : glue_of s.query.now (Expression (made.Glue stream preds) b) ≡ Some (t.require, ForGoal g.tables g.pushed) = (λ i. Some ((sym is_stream i).require, own_goal i)) in
       let made_of : Gathers is_better_plan [] set (From plans (GluesTo s.query.now (costs_of s.rules.now) t.require)) =
-          subst (λ (cs : List CostEntry). Gathers is_better_plan [] set (From plans (GluesTo s.query.now cs t.require))) are h.gathered in
+      subst (λ (cs : List CostEntry). Gathers is_better_plan [] set (From plans (GluesTo s.query.now cs t.require))) are h.gathered in
       record {
-        gathered = glue_exchange s.query.now s.rules.now pass (Expression (made.Glue stream preds) b) (ForGoal g.tables g.pushed) t.require glues plans [] set (best_there open plans at) made_of;
+        gathered = glue_exchange s.query.now s.rules.now pass (Expression (made.Glue stream preds) b) (ForGoal g.tables g.pushed) t.require glues plans [] set (best_there ready plans at) made_of;
         apart = h.apart;
       }

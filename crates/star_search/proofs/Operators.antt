@@ -45,7 +45,7 @@ settled q rules f args given b costs o P are same is_op h =
     let vs : List RuleValue = values_of q b args in
     let op : o ≡ operator_of f vs = is_op ∙ ap (λ (es : List ValueExpr). operator_of f (values_of q b es)) same in
     subst (λ (g : Flavour). P (costs_of rules) g (operator_of f vs)) (its_flavour f vs)
-        (subst (λ (p : Op). P (costs_of rules) (flavour_of p) p) op (subst (λ (cs : List CostEntry). P cs (flavour_of o) o) are h))
+    (subst (λ (p : Op). P (costs_of rules) (flavour_of p) p) op (subst (λ (cs : List CostEntry). P cs (flavour_of o) o) are h))
 
 module _ (q : Query) (rules : RuleFile) (pass : CostsPass (costs_of rules)) (e : PlanExpr) (f : Flavour) (args given : List ValueExpr) (b : List RuleValue) (costs : List CostEntry) (o : Op)
     (are : costs ≡ costs_of rules) (same : given ≡ args) (is_op : o ≡ operator_of f (values_of q b given)) where
@@ -53,7 +53,7 @@ module _ (q : Query) (rules : RuleFile) (pass : CostsPass (costs_of rules)) (e :
   leaf_done (Err x) is h = h
   leaf_done (Ok set) is h =
       let way : Gathers is_better_plan [] set (LeafWay q (costs_of rules) f args b) =
-          settled q rules f args given b costs o (λ cs g p. Gathers is_better_plan [] set (λ x. derived_leaf q cs g p ≡ Some x)) are same is_op h.gathered in
+      settled q rules f args given b costs o (λ cs g p. Gathers is_better_plan [] set (λ x. derived_leaf q cs g p ≡ Some x)) are same is_op h.gathered in
       subst (λ (x : PlanExpr). IsBestOf q rules (Expression x b) set) (sym is) (record { gathered = leaf_exchange q rules pass f args b [] set way; apart = h.apart })
 
   pub unary_done : (input part : PlanExpr) (inputs : List DerivedPlan) (r : Result (List DerivedPlan) AllocError) → e ≡ made.Unary f args input → part ≡ input → IsBestOf q rules (Expression part b) inputs
@@ -62,9 +62,9 @@ module _ (q : Query) (rules : RuleFile) (pass : CostsPass (costs_of rules)) (e :
   unary_done input part inputs (Ok set) is below best h =
       let own : IsBestOf q rules (Expression input b) inputs = subst (λ (x : PlanExpr). IsBestOf q rules (Expression x b) inputs) below best in
       let way : Gathers is_better_plan [] set (From inputs (OverOne q (costs_of rules) f (operator_of f (values_of q b args)))) =
-          settled q rules f args given b costs o (λ cs g p. Gathers is_better_plan [] set (From inputs (λ i x. derived_unary q cs g p i ≡ Some x))) are same is_op h.gathered in
+      settled q rules f args given b costs o (λ cs g p. Gathers is_better_plan [] set (From inputs (λ i x. derived_unary q cs g p i ≡ Some x))) are same is_op h.gathered in
       subst (λ (x : PlanExpr). IsBestOf q rules (Expression x b) set) (sym (is ∙ made-Unary f args input))
-          (record { gathered = unary_exchange q rules pass f args input b inputs [] set own way; apart = h.apart })
+      (record { gathered = unary_exchange q rules pass f args input b inputs [] set own way; apart = h.apart })
 
   pub binary_done : (left right left_part right_part : PlanExpr) (lefts rights : List DerivedPlan) (r : Result (List DerivedPlan) AllocError) → e ≡ made.Binary f args left right → left_part ≡ left → right_part ≡ right
       → IsBestOf q rules (Expression left_part b) lefts → IsBestOf q rules (Expression right_part b) rights
@@ -74,9 +74,9 @@ module _ (q : Query) (rules : RuleFile) (pass : CostsPass (costs_of rules)) (e :
       let own_left : IsBestOf q rules (Expression left b) lefts = subst (λ (x : PlanExpr). IsBestOf q rules (Expression x b) lefts) at_left best_left in
       let own_right : IsBestOf q rules (Expression right b) rights = subst (λ (x : PlanExpr). IsBestOf q rules (Expression x b) rights) at_right best_right in
       let way : Gathers is_better_plan [] set (From lefts (λ l. From rights (OverTwo q (costs_of rules) f (operator_of f (values_of q b args)) l))) =
-          settled q rules f args given b costs o (λ cs g p. Gathers is_better_plan [] set (From lefts (λ l. From rights (λ i x. derived_binary q cs g p l i ≡ Some x)))) are same is_op h.gathered in
+      settled q rules f args given b costs o (λ cs g p. Gathers is_better_plan [] set (From lefts (λ l. From rights (λ i x. derived_binary q cs g p l i ≡ Some x)))) are same is_op h.gathered in
       subst (λ (x : PlanExpr). IsBestOf q rules (Expression x b) set) (sym (is ∙ made-Binary f args left right))
-          (record { gathered = binary_exchange q rules pass f args left right b lefts rights [] set own_left own_right way; apart = h.apart })
+      (record { gathered = binary_exchange q rules pass f args left right b lefts rights [] set own_left own_right way; apart = h.apart })
 
 -- nothing is at the left
 pub binary_none : (q : Query) (rules : RuleFile) (e : PlanExpr) (f : Flavour) (args : List ValueExpr) (left right part : PlanExpr) (b : List RuleValue) (lefts : List DerivedPlan) → e ≡ made.Binary f args left right
@@ -84,7 +84,7 @@ pub binary_none : (q : Query) (rules : RuleFile) (e : PlanExpr) (f : Flavour) (a
 binary_none q rules e f args left right part b [] is at_left best none =
     let own : IsBestOf q rules (Expression left b) [] = subst (λ (x : PlanExpr). IsBestOf q rules (Expression x b) []) at_left best in
     subst (λ (x : PlanExpr). IsBestOf q rules (Expression x b) []) (sym (is ∙ made-Binary f args left right))
-        (nothing_is_best q rules (Expression (expr.Binary f args left right) b) (binary_nothing q rules f args left right b own))
+    (nothing_is_best q rules (Expression (expr.Binary f args left right) b) (binary_nothing q rules f args left right b own))
 binary_none q rules e f args left right part b (x ∷ xs) is at_left best none = let no : ⊥ = omega (arith, none) in absurd no
 
 -- a reference is the call of its STAR
@@ -93,5 +93,5 @@ pub reference_done : (q : Query) (rules : RuleFile) (e : PlanExpr) (star : List 
 reference_done q rules e star args given b values (Err x) is same are h = h
 reference_done q rules e star args given b values (Ok set) is same are h =
     let own : IsBestOf q rules (Call star (values_of q b args)) set =
-        subst (λ (vs : List RuleValue). IsBestOf q rules (Call star vs) set) (are ∙ ap (values_of q b) same) h in
+    subst (λ (vs : List RuleValue). IsBestOf q rules (Call star vs) set) (are ∙ ap (values_of q b) same) h in
     subst (λ (x : PlanExpr). IsBestOf q rules (Expression x b) set) (sym is) (reference_exchange q rules star args b set own)

@@ -37,8 +37,8 @@ module _ (q : Query) (rules : RuleFile) (star : List ℕ) (n : ℕ) (a : Alterna
       → Gathers is_better_plan new newer (RangesWay q rules star n a fs numbers next) → Passes is_better_plan (numbered_members q c f.range) (seen ++ (m, v) ∷ []) later old newer NextWay
   member_more f seen left later m v numbers next old new newer passes at are_numbers is_next g =
       let step : Gathers is_better_plan new newer (NextWay (m, v)) =
-          subst (λ (vs : List RuleValue). Gathers is_better_plan new newer (RangesWay q rules star n a fs (picked ++ (m + 1) ∷ []) vs)) is_next
-              (subst (λ (ns : List ℕ). Gathers is_better_plan new newer (RangesWay q rules star n a fs ns next)) are_numbers g) in
+      subst (λ (vs : List RuleValue). Gathers is_better_plan new newer (RangesWay q rules star n a fs (picked ++ (m + 1) ∷ []) vs)) is_next
+      (subst (λ (ns : List ℕ). Gathers is_better_plan new newer (RangesWay q rules star n a fs ns next)) are_numbers g) in
       one_more (numbered_members q c f.range) seen (m, v) left later old new newer NextWay at passes step
 
   -- what members make, each with its number, is what numbers make
@@ -61,6 +61,6 @@ module _ (q : Query) (rules : RuleFile) (star : List ℕ) (n : ℕ) (a : Alterna
       → Gathers is_better_plan old new (RangesWay q rules star n a (f ∷ fs) picked c)
   members_done f seen left old new passes none =
       ranges_exchange q rules star n a f fs picked c old new
-          (Gathers-same is_better_plan (From (numbered_members q c f.range) NextWay) (From (numbers_of q c f.range) (λ m. NextWay (m, member_at f.range m))) old new
-              (from_numbers (member_at f.range) (numbers_of q c f.range)) (to_numbers (member_at f.range) (numbers_of q c f.range))
-              (Passes-all is_better_plan (numbered_members q c f.range) seen left old new NextWay none passes))
+      (Gathers-same is_better_plan (From (numbered_members q c f.range) NextWay) (From (numbers_of q c f.range) (λ m. NextWay (m, member_at f.range m))) old new
+      (from_numbers (member_at f.range) (numbers_of q c f.range)) (to_numbers (member_at f.range) (numbers_of q c f.range))
+      (Passes-all is_better_plan (numbered_members q c f.range) seen left old new NextWay none passes))

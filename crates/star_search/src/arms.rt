@@ -15,7 +15,13 @@ use star_value::Env;
 use std::alloc::{AllocError, Global};
 
 /// The plans that Glue makes of the set that the memo has for its goal.
-pub fn glued_plans(alloc: Global, search: &Search<'_>, stream: &ValueExpr, preds: &ValueExpr, env: &Env) -> Result<PlanSet<Entry>, AllocError>
+pub fn glued_plans(
+    alloc: Global,
+    search: &Search<'_>,
+    stream: &ValueExpr,
+    preds: &ValueExpr,
+    env: &Env,
+) -> Result<PlanSet<Entry>, AllocError>
     requires open { IsOpen search.now }
     requires leads { LeadsTo search.now (Expression (plain.Glue stream.now preds.now) env.now) }
     ensures { IfOk result (IsBestOf search.now.query.now search.now.rules.now (Expression (plain.Glue stream.now preds.now) env.now)) }
@@ -25,7 +31,13 @@ pub fn glued_plans(alloc: Global, search: &Search<'_>, stream: &ValueExpr, preds
     let applied = star_value::preds(preds, env, search.query);
     let goal = glued_goal(search.query, required.tables, applied);
     match search.memo.get(&goal) {
-        Some(plans) => glue(alloc, search.query, search.rules.costs(), plans, &required.require),
+        Some(plans) => glue(
+            alloc,
+            search.query,
+            search.rules.costs(),
+            plans,
+            &required.require,
+        ),
         None => unreachable!(),
     }
 }

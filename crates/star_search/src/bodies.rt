@@ -21,7 +21,12 @@ use std::alloc::{AllocError, Global};
 
 /// The best plans of an expression under bindings.
 #[cycle(search)]
-pub fn plans_of(alloc: Global, search: &Search<'_>, expr: &PlanExpr, env: &Env) -> Result<PlanSet<Entry>, AllocError>
+pub fn plans_of(
+    alloc: Global,
+    search: &Search<'_>,
+    expr: &PlanExpr,
+    env: &Env,
+) -> Result<PlanSet<Entry>, AllocError>
     requires open { IsOpen search.now }
     requires leads { LeadsTo search.now (Expression expr.now env.now) }
     ensures { IfOk result (IsBestOf search.now.query.now search.now.rules.now (Expression expr.now env.now)) }
@@ -67,7 +72,12 @@ pub fn plans_of(alloc: Global, search: &Search<'_>, expr: &PlanExpr, env: &Env) 
 
 /// The best plans of a STAR under the values of its parameters.
 #[cycle(search)]
-pub fn plans_of_call(alloc: Global, search: &Search<'_>, star: &Name, env: &Env) -> Result<PlanSet<Entry>, AllocError>
+pub fn plans_of_call(
+    alloc: Global,
+    search: &Search<'_>,
+    star: &Name,
+    env: &Env,
+) -> Result<PlanSet<Entry>, AllocError>
     requires open { IsOpen search.now }
     requires leads { LeadsTo search.now (Call star.now env.now) }
     ensures { IfOk result (IsBestOf search.now.query.now search.now.rules.now (Call star.now env.now)) }
@@ -82,7 +92,15 @@ pub fn plans_of_call(alloc: Global, search: &Search<'_>, star: &Name, env: &Env)
                 alternative,
             };
             let none = ForAllValues::new();
-            add_ranges(alloc, search, &part, alternative.ranges.as_slice(), &none, env, &mut out)?;
+            add_ranges(
+                alloc,
+                search,
+                &part,
+                alternative.ranges.as_slice(),
+                &none,
+                env,
+                &mut out,
+            )?;
         }
     }
     out.apart();

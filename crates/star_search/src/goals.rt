@@ -34,7 +34,12 @@ pub fn goal_plans(alloc: Global, search: &Search<'_>) -> Result<PlanSet<Entry>, 
 }
 
 // Offers the plans of each split of several quantifiers.
-fn add_splits(alloc: Global, search: &Search<'_>, target: &Target, out: &mut PlanSet<Entry>) -> Result<(), AllocError>
+fn add_splits(
+    alloc: Global,
+    search: &Search<'_>,
+    target: &Target,
+    out: &mut PlanSet<Entry>,
+) -> Result<(), AllocError>
     requires open { IsOpen search.now }
     requires target { target.now ≡ target_of search.now.query.now search.now.goal }
     requires several { nat_eq (size search.now.goal.tables) 1 ≡ false }
