@@ -1,5 +1,5 @@
 -- The cheapest of the members that were seen; and that of what Glue makes for the query is a plan of least cost.
-use Rattle.std.proofs.Common.{◌≡◌, ℕ, ◌<◌, ◌≤◌, List, [], ◌∷◌, ◌++◌, Option, None, Some, MatchOption, ◌⊎◌, inl, inr, refl, sym, subst, arith}
+use Rattle.std.proofs.Common.{◌≡◌, ◌≤◌, List, [], ◌∷◌, ◌++◌, Option, None, Some, MatchOption, ◌⊎◌, inl, inr, refl, sym, subst, arith}
 use Rattle.std.specs.Prelude.{Contains}
 use Rattle.std.proofs.lemmas.List.Elements.{Contains-push, Contains-push_cases, Contains-append_left}
 use Rattle.star_model.specs.Accepted.{IsAccepted}
@@ -44,8 +44,8 @@ module _ (q : Query) (rules : RuleFile) where
       → IsFrontier is_better_plan (From plans (GluesTo q costs r)) glued → IsBestOf q rules ForQuery glued
   best_for_query accepted costs r plans glued same_costs same_require best made =
       let own : IsFrontier is_better_plan (From plans (GluesTo q (costs_of rules) (root_requirement q))) glued =
-          subst (λ (w : Require). IsFrontier is_better_plan (From plans (GluesTo q (costs_of rules) w)) glued) same_require
-              (subst (λ (cs : List CostEntry). IsFrontier is_better_plan (From plans (GluesTo q cs r)) glued) same_costs made) in
+      subst (λ (w : Require). IsFrontier is_better_plan (From plans (GluesTo q (costs_of rules) w)) glued) same_require
+      (subst (λ (cs : List CostEntry). IsFrontier is_better_plan (From plans (GluesTo q cs r)) glued) same_costs made) in
       record {
         gathered = glue_exchange q rules (accepted_pass rules accepted) ForQuery (query_goal q) (root_requirement q) refl plans [] glued best own.gathered;
         apart = own.apart;
@@ -54,7 +54,7 @@ module _ (q : Query) (rules : RuleFile) where
   pub cheapest_is_chosen : (glued : List DerivedPlan) → IsBestOf q rules ForQuery glued → (e copy : DerivedPlan) → IsCheapest glued e → copy ≡ e → IsChosen q rules (Some copy)
   cheapest_is_chosen glued best e copy cheapest same =
       subst (λ (x : DerivedPlan). IsChosen q rules (Some x)) (sym same)
-          (cheapest_is_least q rules glued best e cheapest.member cheapest.least, best_derived q rules ForQuery glued best e cheapest.member)
+      (cheapest_is_least q rules glued best e cheapest.member cheapest.least, best_derived q rules ForQuery glued best e cheapest.member)
 
   pub plans_fit : (costs : List CostEntry) (plans : List DerivedPlan) → costs ≡ costs_of rules → IsBestOf q rules (query_goal q) plans → AllFit q costs plans
   plans_fit costs plans same best = subst (λ (cs : List CostEntry). AllFit q cs plans) (sym same) (best_fit q rules (query_goal q) plans best)

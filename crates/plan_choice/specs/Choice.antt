@@ -1,5 +1,5 @@
 -- Which plan is chosen for a query.
-use Rattle.std.specs.Prelude.{ℕ, ◌≤◌, List, Option, Some, None, Contains}
+use Rattle.std.specs.Prelude.{◌≤◌, List, Option, Some, None, Contains}
 use Rattle.star_model.specs.Derivations.{IsRoot, IsLeast}
 use Rattle.star_model.specs.Expected.{ForQuery}
 use Rattle.star_model.specs.declared.derivations.Deriv.{Deriv}

@@ -1,4 +1,4 @@
-use Rattle.std.proofs.Common.{map, append_assoc}
+use Rattle.std.proofs.Common.{append_assoc}
 use Rattle.std.proofs.lemmas.List.{map-append}
 use Rattle.plan_choice.proofs.Cheapest.{cheapest_push}
 use Rattle.plan_choice.proofs.choosing.cheapest.Goals as goal
