@@ -77,6 +77,6 @@ removed_others g (s ∷ memo) once = by (same_goal g s.0) refl (removed_others g
         → cond b memo (s ∷ remove_entry (same_goal g) memo) ≡ cond (not b) (s ∷ filter (λ (s : GoalSet). not (same_goal g s.0)) memo) (filter (λ (s : GoalSet). not (same_goal g s.0)) memo)
     by true same later =
         let none : AllByRecursion (λ h. same_goal g h ≡ false) (goals_of memo) =
-            subst (λ (k : Goal). AllByRecursion (λ h. same_goal k h ≡ false) (goals_of memo)) (sym (same_goal-true g s.0 same)) (IsDistinct-head same_goal s.0 (goals_of memo) once) in
+        subst (λ (k : Goal). AllByRecursion (λ h. same_goal k h ≡ false) (goals_of memo)) (sym (same_goal-true g s.0 same)) (IsDistinct-head same_goal s.0 (goals_of memo) once) in
         sym (others_stay g memo none)
     by false same later = ap (λ rest. s ∷ rest) later
