@@ -1,0 +1,1 @@
+// The laws of places, each the clause of a function that does nothing.
