@@ -45,14 +45,14 @@ few_alternatives rules star d formed named = (limits_of rules star d formed name
 
 pub few_arguments : (s : Search) (e : PlanExpr) (star : List ℕ) (args : List ValueExpr) (b : List RuleValue) → WellFormedRules s.rules.now → IsAccepted s.rules.now
     → IsGoal s.query.now s.goal.tables s.goal.pushed → e ≡ made.Reference star args → LeadsTo s (Expression e b) → length args ≤ 8
+unfolding references_in
 few_arguments s e star args b formed accepted goal is leads = few (goal_leads_to_sound s.rules.now accepted s.query.now s.goal.tables s.goal.pushed (Expression (made.Reference star args) b) goal
     (subst (λ (x : PlanExpr). LeadsTo s (Expression x b)) is leads))
   where
     few : IsSoundExpression s.rules.now s.goal.tables (made.Reference star args) b → length args ≤ 8
-    unfolding references_in
     few sound =
         let both = and_parts (is_some (star_named s.rules.now star)) (nat_eq (length args) (count_of_parameters s.rules.now star))
-            (one_passes (λ (r : List ℕ × List ValueExpr). is_some (star_named s.rules.now r.0) && nat_eq (length r.1) (count_of_parameters s.rules.now r.0)) (star, args) sound.references) in
+        (one_passes (λ (r : List ℕ × List ValueExpr). is_some (star_named s.rules.now r.0) && nat_eq (length r.1) (count_of_parameters s.rules.now r.0)) (star, args) sound.references) in
         let d = some_of (star_named s.rules.now star) both.0 in
         let count : count_of_parameters s.rules.now star ≡ length d.0.params = ap (λ (o : Option StarDef). option_map_or (λ (s : StarDef). length s.params) o 0) d.1 in
         let same = eqb-true (length args) (count_of_parameters s.rules.now star) both.1 in

@@ -1,6 +1,7 @@
 -- How a search goes on from a place to the places below it.
 use Prim.Native.Nat.{zero, suc}
-use Rattle.std.proofs.Common.{◌≡◌, ℕ, ◌+◌, ◌-◌, ◌<◌, ◌≤◌, Bool, true, false, ◌&&◌, not, nat_eq, List, [], ◌∷◌, ◌++◌, Option, Some, None, refl, ap, sym, ◌∙◌, subst, arith, length, append_assoc, append-nil, length-append, if◌then◌else◌}
+use Rattle.std.proofs.Common.{◌≡◌, ℕ, ◌+◌, ◌-◌, ◌<◌, ◌≤◌, Bool, true, false, ◌&&◌, not, nat_eq, List, [], ◌∷◌, ◌++◌, Option, Some, None, refl, ap, sym, ◌∙◌, subst, arith, length, map, append_assoc, append-nil, length-append, if◌then◌else◌}
+use Rattle.std.proofs.lemmas.List.Elements.{Contains-append_right}
 use Rattle.std.specs.Prelude.{Contains, option_and_then}
 use Rattle.star_model.specs.AskedGoals.{Below, Leads}
 use Rattle.star_model.specs.Expected.{Expected, ForGoal, Call, Expression, bound, meets, body_of, may_split, root_call, values_of}
@@ -30,9 +31,9 @@ pub to_body : (s : Search) (star : List ℕ) (n : ℕ) (a : Alternative) (picked
 to_body s star n a picked c w ok =
     let whole : bound s.query.now a.ranges picked w.call ≡ Some c = ap (λ ps. bound s.query.now a.ranges ps w.call) (sym (append-nil picked)) ∙ sym (w.bindings []) in
     let body : body_of s.query.now s.rules.now star w.call n picked ≡ Some (Expression a.body c) =
-        ap (option_and_then (λ (a : Alternative). option_and_then (λ (c : List RuleValue). if meets s.query.now c a.condition then Some (Expression a.body c) else None) (bound s.query.now a.ranges picked w.call))) w.found
-        ∙ ap (option_and_then (λ (c : List RuleValue). if meets s.query.now c a.condition then Some (Expression a.body c) else None)) whole
-        ∙ ap (λ (t : Bool). if t then Some (Expression a.body c) else None) ok in
+    ap (option_and_then (λ (a : Alternative). option_and_then (λ (c : List RuleValue). if meets s.query.now c a.condition then Some (Expression a.body c) else None) (bound s.query.now a.ranges picked w.call))) w.found
+    ∙ ap (option_and_then (λ (c : List RuleValue). if meets s.query.now c a.condition then Some (Expression a.body c) else None)) whole
+    ∙ ap (λ (t : Bool). if t then Some (Expression a.body c) else None) ok in
     leads_further s.query.now s.rules.now (ForGoal s.goal.tables s.goal.pushed) (Call star w.call) (Expression a.body c) w.leads (Below.by_alternative star w.call n picked (Expression a.body c) body)
 
 -- the next name is bound
@@ -46,6 +47,29 @@ one_bound s star n a f fs picked c w m among = record {
   room = (let room = w.room in let l = length-append c (member_at f.range m ∷ []) in omega (arith, room, l));
   numbers = (let numbers = w.numbers in let l = length-append picked ((m + 1) ∷ []) in omega (arith, numbers, l));
 }
+
+-- a number of the list, each of whose numbers stands with its member
+among_numbered : {A : Type 0} (at : ℕ → A) (ns : List ℕ) (m : ℕ) (v : A) → Contains (map (λ n. (n, at n)) ns) (m, v) → Contains ns m × (at m ≡ v)
+among_numbered at [] m v (k, below, is) = let no : ⊥ = omega (arith, below) in absurd no
+among_numbered {A} at (n ∷ ns) m v (zero, below, is) =
+    let same : n ≡ m = ap (λ (p : ℕ × A). p.0) is in
+    let value : at n ≡ v = ap (λ (p : ℕ × A). p.1) is in
+    ((0, omega arith, same), ap at (sym same) ∙ value)
+among_numbered at (n ∷ ns) m v (suc k, below, is) =
+    let later = among_numbered at ns m v (k, omega (arith, below), is) in
+    ((suc later.0.0, (let b = later.0.1 in omega (arith, b)), later.0.2), later.1)
+
+-- the next name is bound to the next member of its range, of whose members some were seen
+pub member_bound : (s : Search) (star : List ℕ) (n : ℕ) (a : Alternative) (f : ForAll) (fs : List ForAll) (picked : List ℕ) (c : List RuleValue) → IsWithin s star n a (f ∷ fs) picked c
+    → (seen left later : List (ℕ × RuleValue)) (m : ℕ) (v : RuleValue) (numbers : List ℕ) (next : List RuleValue) → map (λ m. (m, member_at f.range m)) (numbers_of s.query.now c f.range) ≡ seen ++ left → left ≡ (m, v) ∷ later
+    → numbers ≡ picked ++ (m + 1) ∷ [] → next ≡ c ++ v ∷ [] → IsWithin s star n a fs numbers next
+member_bound s star n a f fs picked c w seen left later m v numbers next all at is_numbers is_next =
+    let whole : map (λ m. (m, member_at f.range m)) (numbers_of s.query.now c f.range) ≡ seen ++ (m, v) ∷ later = all ∙ ap (λ (xs : List (ℕ × RuleValue)). seen ++ xs) at in
+    let there = subst (λ (xs : List (ℕ × RuleValue)). Contains xs (m, v)) (sym whole) (Contains-append_right seen ((m, v) ∷ later) (m, v) (0, omega arith, refl)) in
+    let among = among_numbered (member_at f.range) (numbers_of s.query.now c f.range) m v there in
+    let bound = one_bound s star n a f fs picked c w m among.0 in
+    subst (λ (ns : List ℕ). IsWithin s star n a fs ns next) (sym is_numbers)
+    (subst (λ (vs : List RuleValue). IsWithin s star n a fs (picked ++ (m + 1) ∷ []) vs) (ap (λ (u : RuleValue). c ++ u ∷ []) among.1 ∙ sym is_next) bound)
 
 -- ---- the parts of expressions, each with less work
 
@@ -93,4 +117,4 @@ root_is_called s j (Some p) = refl
 pub to_root : (s : Search) (split : Option (ℕ × ℕ)) → may_split s.goal.tables split ≡ true → LeadsTo s (Call (root_of_split split) (root_values s.goal.tables s.goal.pushed split))
 to_root s split may =
     subst (LeadsTo s) (root_is_called s.goal.tables s.goal.pushed split)
-        (further s (ForGoal s.goal.tables s.goal.pushed) (root_call s.goal.tables s.goal.pushed split) (Leads.here (ForGoal s.goal.tables s.goal.pushed)) (Below.by_split s.goal.tables s.goal.pushed split may))
+    (further s (ForGoal s.goal.tables s.goal.pushed) (root_call s.goal.tables s.goal.pushed split) (Leads.here (ForGoal s.goal.tables s.goal.pushed)) (Below.by_split s.goal.tables s.goal.pushed split may))
