@@ -1,0 +1,4 @@
+mod Parts
+mod Alternatives
+mod GoalLaws
+pub mod Laws
