@@ -1,0 +1,3 @@
+mod Cheapest
+mod LineOrderLaws
+mod SortedLines

@@ -1,0 +1,1 @@
+// The laws of the definitions, each the clause of a function that does nothing.
