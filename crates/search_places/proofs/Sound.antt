@@ -99,7 +99,7 @@ to_alternative s star b d i a formed accepted goal leads named at = within (goal
 pub root_is_there : (rules own : RuleFile) (r : Root) (letters : List ℕ) → IsAccepted rules → own ≡ rules → letters ≡ root_name rules r → IsSome (star_named own letters)
 root_is_there rules own r letters accepted same are =
     subst (λ (file : RuleFile). IsSome (star_named file letters)) (sym same)
-        (subst (λ (name : List ℕ). IsSome (star_named rules name)) (sym are) (is_there (star_named rules (root_name rules r)) (accepted.roots r)))
+    (subst (λ (name : List ℕ). IsSome (star_named rules name)) (sym are) (is_there (star_named rules (root_name rules r)) (accepted.roots r)))
   where
     is_there : (o : Option StarDef) → not (is_some o) ≡ false → IsSome o
     is_there None h = sym h
