@@ -35,12 +35,10 @@ pub fn missing_in(search: &Search<'_>, expr: &PlanExpr, env: &Env) -> Option<Goa
             args: _,
             left,
             right,
-        } => {
-            if let Some(goal) = missing_in(search, left.get(), env) {
-                return Some(goal);
-            }
-            missing_in(search, right.get(), env)
-        }
+        } => match missing_in(search, left.get(), env) {
+            Some(goal) => Some(goal),
+            None => missing_in(search, right.get(), env),
+        },
         PlanExpr::Glue { stream, preds } => missing_at_glue(search, stream, preds, env),
         PlanExpr::Reference { star, args } => {
             let values = values(args.as_slice(), env, search.query);
@@ -57,9 +55,7 @@ pub fn missing_in_call(search: &Search<'_>, star: &Name, env: &Env) -> Option<Go
     ensures { FirstMissing search.now.memo.now (AsksFrom search.now.query.now search.now.rules.now (Call star.now env.now)) result }
 {
     search.rules.stands();
-    let Some(found) = search.rules.star(star) else {
-        return None;
-    };
+    let found = search.rules.star(star)?;
     for alternative in found.alternatives.as_slice() {
         let missing = missing_in_ranges(search, star, alternative, alternative.ranges.as_slice(), env);
         if let Some(goal) = missing {
@@ -106,8 +102,9 @@ fn missing_in_body(search: &Search<'_>, star: &Name, alternative: &Alternative, 
     ensures { FirstMissing search.now.memo.now (AsksOver search.now.query.now search.now.rules.now alternative.now [] env.now) result }
 {
     search.rules.stands();
-    if !meets(&alternative.condition, env, search.query) {
-        return None;
+    if meets(&alternative.condition, env, search.query) {
+        missing_in(search, &alternative.body, env)
+    } else {
+        None
     }
-    missing_in(search, &alternative.body, env)
 }

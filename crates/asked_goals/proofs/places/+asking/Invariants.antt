@@ -12,13 +12,13 @@ abbrev pub decreases-missing_in : goal.decreases-missing_in
 decreases-missing_in l = work_at l.search.now.rules.now l.expr.now
 
 abbrev pub decreases-missing_in_call : goal.decreases-missing_in_call
-decreases-missing_in_call l = work_in l.search.now.rules.now l.star.now 4
+decreases-missing_in_call l = work_in l.search.now.rules.now l.star.now 9
 
 abbrev pub decreases-missing_in_ranges : goal.decreases-missing_in_ranges
-decreases-missing_in_ranges l = work_in l.search.now.rules.now l.star.now (1 + length l.ranges.now)
+decreases-missing_in_ranges l = work_in l.search.now.rules.now l.star.now (1 + 2 * length l.ranges.now)
 
 abbrev pub decreases-missing_in_members : goal.decreases-missing_in_members
-decreases-missing_in_members l = work_in l.search.now.rules.now l.star.now (1 + length l.more.now)
+decreases-missing_in_members l = work_in l.search.now.rules.now l.star.now (2 + 2 * length l.more.now)
 
 abbrev pub decreases-missing_in_body : goal.decreases-missing_in_body
 decreases-missing_in_body l = work_in l.search.now.rules.now l.star.now 0
