@@ -4,7 +4,7 @@ use Rattle.std.proofs.Common.{◌≡◌, ℕ, ◌+◌, ◌<◌, ◌≤◌, ◌�
 use Rattle.std.specs.Prelude.{Contains, slice_get}
 use Rattle.std.proofs.lemmas.Option.{slice_get_within, slice_get-get_or}
 use Rattle.std.proofs.lemmas.List.Elements.{Contains-push_cases, Contains-append_right}
-use Rattle.star_model.specs.Expected.{Expected, Call}
+use Rattle.star_model.specs.Expected.{Expected, Call, root_call}
 use Rattle.star_model.specs.Meaning.{member_at, members_of, numbers_of}
 use Rattle.star_model.specs.Stars.{star_named}
 use Rattle.star_model.specs.declared.plans.Goal.{Goal}
@@ -114,3 +114,14 @@ member_inside s star a f fs c inside v next among is =
     let (m, number, value) = mapped_in (member_at f.range) (numbers_of s.query.now c f.range) v among in
     (n, picked ++ (m + 1) ∷ [],
         subst (λ (b : List RuleValue). IsWithin s star n a fs (picked ++ (m + 1) ∷ []) b) (ap (λ u. c ++ u ∷ []) value ∙ sym is) (one_bound s star n a f fs picked c w m number))
+
+-- ---- the splits of a goal
+
+pub splits_more : (q : Query) (rules : RuleFile) (memo : List GoalSet) (s j : ℕ) (seen : List (ℕ × ℕ)) (p : ℕ × ℕ)
+    → ((x : ℕ × ℕ) → Contains {X = ℕ × ℕ} seen x → FirstMissing memo (AsksFrom q rules (root_call s j (Some x))) None) → FirstMissing memo (AsksFrom q rules (root_call s j (Some p))) None
+    → (x : ℕ × ℕ) → Contains {X = ℕ × ℕ} (seen ++ p ∷ []) x → FirstMissing memo (AsksFrom q rules (root_call s j (Some x))) None
+splits_more q rules memo s j seen p held m x among = of (Contains-push_cases {X = ℕ × ℕ} seen p x among)
+  where
+    of : Contains {X = ℕ × ℕ} seen x ⊎ (p ≡ x) → FirstMissing memo (AsksFrom q rules (root_call s j (Some x))) None
+    of (inl before) = held x before
+    of (inr same) = subst (λ (y : ℕ × ℕ). FirstMissing memo (AsksFrom q rules (root_call s j (Some y))) None) same m
