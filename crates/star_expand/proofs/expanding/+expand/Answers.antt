@@ -27,7 +27,7 @@ pub expand-returns-clause-grows : goal.expand-returns-clause-grows
 expand-returns-clause-grows t c =
     let none = sym c.get-2.ensures ∙ copied_none c.get-2.result (sym c.is_some-2.ensures ∙ c.if-is_some-2.false) in
     Grows-then c.args.query.now c.args.rules.now c.args.goal c.args.memo.now c.fill.new.memo c.put.new.self c.in_ok-fill.ensures.grows
-        (Grows-after c.args.query.now c.args.rules.now c.args.goal c.in_ok-plans.plans c.fill.new.memo c.put.new.self none c.put.result c.put.ensures.put c.put.ensures.memory)
+    (Grows-after c.args.query.now c.args.rules.now c.args.goal c.in_ok-plans.plans c.fill.new.memo c.put.new.self none c.put.result c.put.ensures.put c.put.ensures.memory)
 
 pub expand-returns-clause-held : goal.expand-returns-clause-held
 expand-returns-clause-held t c =
@@ -68,7 +68,7 @@ fill-returns-clause-asked t c =
     let s = c.args.goal.now.tables in
     let all = seen_all (splits s) c.loop-split.yielded (splits_left c.loop-split.split-iterator) c.loop-split.invariant.all c.in-None.ensures.steps.0 in
     holds_of_splits c.args.query.now c.args.rules.now c.loop-split.memo c.args.goal.now c.requires.goal.bounds.0 (several s c.len.result c.len.ensures c.if-len-eq1.false)
-        (λ p listed. c.loop-split.invariant.held p (subst (λ (xs : List (ℕ × ℕ)). Contains {X = ℕ × ℕ} xs p) all listed))
+    (λ p listed. c.loop-split.invariant.held p (subst (λ (xs : List (ℕ × ℕ)). Contains {X = ℕ × ℕ} xs p) all listed))
 
 -- ---- one split
 
@@ -79,9 +79,16 @@ fill_split-expand-requires t c =
     let g = c.args.goal.now in
     let n = c.in-Some.next in
     let asks = split_asks q rules g.tables g.pushed n.tables n.pushed c.args.split c.requires.split c.in-Some.ensures.0 in
-    let less = asked_goal_is_smaller q rules c.stands.ensures.accepted g.tables g.pushed n.tables n.pushed c.requires.goal asks in
-    (omega (arith, c.decreases, less.2), (c.requires.query, (goal_asks_for_goals q rules c.stands.ensures.accepted g.tables g.pushed n.tables n.pushed c.requires.goal asks,
-        (c.loop-next.invariant.frontiers, c.loop-next.invariant.closed))))
+    let less = asked_goal_is_smaller q rules c.stands.ensures.accepted g.tables g.pushed n.tables n.pushed c.requires.goal asks in (
+      omega (arith, c.decreases, less.2),
+      (
+        c.requires.query,
+        (
+          goal_asks_for_goals q rules c.stands.ensures.accepted g.tables g.pushed n.tables n.pushed c.requires.goal asks,
+          (c.loop-next.invariant.frontiers, c.loop-next.invariant.closed),
+        ),
+      ),
+    )
 
 pub fill_split-returns-in_err-expand-clause-grows : goal.fill_split-returns-in_err-expand-clause-grows
 fill_split-returns-in_err-expand-clause-grows t c =
