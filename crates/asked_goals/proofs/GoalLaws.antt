@@ -1,6 +1,6 @@
 -- A goal asks for what its splits ask for, and one of one quantifier for nothing.
-use Rattle.std.proofs.Common.{◌≡◌, ℕ, ◌<◌, ◌^◌, Bool, true, false, nat_eq, List, [], ◌∷◌, Option, Some, None, refl, ap, sym, ◌∙◌}
-use Rattle.std.specs.Prelude.{Contains}
+use Rattle.std.proofs.Common.{◌≡◌, ℕ, ◌<◌, ◌^◌, Bool, true, false, nat_eq, List, [], Option, Some, None, refl, ap, sym, ◌∙◌, subst}
+use Rattle.std.specs.Prelude.{Contains, is_some, IsSome}
 use Rattle.std.proofs.lemmas.Bool.{true≢false}
 use Rattle.star_model.specs.Accepted.{IsAccepted, glues_in}
 use Rattle.star_model.specs.AskedGoals.{Asks}
@@ -12,10 +12,10 @@ use Rattle.star_model.specs.declared.rules.PlanExpr.TheVariants as made
 use Rattle.star_model.specs.declared.rules.ValueExpr.{ValueExpr}
 use Rattle.star_model.specs.declared.rules.RuleFile.{RuleFile}
 use Rattle.star_check.proofs.Laws.{one_leads_to_no_glue}
-use Rattle.table_set_memo.specs.Memos.{GoalSet, IsHeld}
+use Rattle.table_set_memo.specs.Memos.{GoalSet, plans_at, IsHeld}
 use Rattle.exchange.specs.Asking.{AsksFrom}
 use Rattle.exchange.proofs.Laws.{asks_parts, asks_goal, split_listed}
-use Rattle.search_places.specs.Memos.{HoldsAsked}
+use Rattle.search_places.specs.Memos.{HoldsAsked, FirstMissing}
 
 module _ (q : Query) (rules : RuleFile) where
   no_glue : (stream preds : ValueExpr) → glues_in (made.Glue stream preds) ≡ [] → ⊥
@@ -47,3 +47,21 @@ module _ (q : Query) (rules : RuleFile) where
       → ((p : ℕ × ℕ) → Contains (splits g.tables) p → (h : Goal) → AsksFrom q rules (root_call g.tables g.pushed (Some p)) h.tables h.pushed → IsHeld memo h) → HoldsAsked q rules memo g
   unfolding HoldsAsked
   holds_of_splits memo g fits several held = λ h asked. (let (p, listed, asks) = asks_split g.tables g.pushed h.tables h.pushed fits several asked in held p listed h asks)
+
+  -- what is missing in a split is asked for and isn't held
+  pub missing_denies : (memo : List GoalSet) (g h : Goal) (p : ℕ × ℕ) → may_split g.tables (Some p) ≡ true → FirstMissing memo (AsksFrom q rules (root_call g.tables g.pushed (Some p))) (Some h)
+      → HoldsAsked q rules memo g → ⊥
+  unfolding HoldsAsked
+  missing_denies memo g h p may m held =
+      let there : IsSome (plans_at memo h) = held h (split_asks g.tables g.pushed h.tables h.pushed p may m.0) in
+      true≢false (sym there ∙ ap is_some m.1)
+
+-- ---- by the test whether one is missing
+
+pub none_is_missing : (memo : List GoalSet) (P : ℕ → ℕ → Type 0) (r : Option Goal) → is_some r ≡ false → FirstMissing memo P r → FirstMissing memo P None
+none_is_missing memo P None h m = m
+none_is_missing memo P (Some g) h m = absurd (true≢false h)
+
+pub one_is_missing : (memo : List GoalSet) (P : ℕ → ℕ → Type 0) (r : Option Goal) → is_some r ≡ true → FirstMissing memo P r → (g : Goal) × FirstMissing memo P (Some g)
+one_is_missing memo P None h m = absurd (true≢false (sym h))
+one_is_missing memo P (Some g) h m = (g, m)

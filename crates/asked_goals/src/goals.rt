@@ -6,6 +6,7 @@ ghost use Rattle.star_model.specs.Goals.{IsGoal};
 ghost use Rattle.star_model.specs.WellFormed.{WellFormedQuery};
 ghost use Rattle.exchange.specs.Asking.{AsksFrom};
 ghost use Rattle.search_places.specs.Memos.{FirstMissing, HoldsAsked};
+ghost use Rattle.search_places.specs.Searching.{IsPosed};
 
 use crate::places::missing_in_call;
 use search_places::{Search, root_name, root_values};
@@ -28,15 +29,24 @@ pub fn missing_in_split<'a>(
     requires split { may_split goal.now.tables (Some split) ≡ true }
     ensures { FirstMissing memo.now (AsksFrom query.now rules.now (root_call goal.now.tables goal.now.pushed (Some split))) result }
 {
-    let goal = *goal;
-    let values = root_values(goal, Some(split));
     let search = Search {
         rules,
         query,
         memo,
-        goal,
+        goal: *goal,
     };
-    missing_in_call(&search, root_name(rules, Some(split)), &values)
+    missing_in_root(&search, split)
+}
+
+// The first goal that the root STAR asks for under the split's values, and that isn't held.
+fn missing_in_root(search: &Search<'_>, split: (QuantSet, QuantSet)) -> Option<Goal>
+    requires posed { IsPosed search.now }
+    requires split { may_split search.now.goal.tables (Some split) ≡ true }
+    ensures { FirstMissing search.now.memo.now (AsksFrom search.now.query.now search.now.rules.now (root_call search.now.goal.tables search.now.goal.pushed (Some split))) result }
+{
+    let (left, right) = split;
+    let root = root_name(search.rules, Some((left, right)));
+    missing_in_call(search, root, &root_values(search.goal, Some((left, right))))
 }
 
 /// Whether the memo holds each goal for which this one asks. It takes no memory.

@@ -24,7 +24,10 @@ pub fn missing_in(search: &Search<'_>, expr: &PlanExpr, env: &Env) -> Option<Goa
 {
     search.rules.stands();
     match expr {
-        PlanExpr::Leaf { flavour: _, args: _ } => None,
+        PlanExpr::Leaf {
+            flavour: _,
+            args: _,
+        } => None,
         PlanExpr::Unary {
             flavour: _,
             args: _,
@@ -35,12 +38,10 @@ pub fn missing_in(search: &Search<'_>, expr: &PlanExpr, env: &Env) -> Option<Goa
             args: _,
             left,
             right,
-        } => {
-            if let Some(goal) = missing_in(search, left.get(), env) {
-                return Some(goal);
-            }
-            missing_in(search, right.get(), env)
-        }
+        } => match missing_in(search, left.get(), env) {
+            Some(goal) => Some(goal),
+            None => missing_in(search, right.get(), env),
+        },
         PlanExpr::Glue { stream, preds } => missing_at_glue(search, stream, preds, env),
         PlanExpr::Reference { star, args } => {
             let values = values(args.as_slice(), env, search.query);
@@ -57,11 +58,15 @@ pub fn missing_in_call(search: &Search<'_>, star: &Name, env: &Env) -> Option<Go
     ensures { FirstMissing search.now.memo.now (AsksFrom search.now.query.now search.now.rules.now (Call star.now env.now)) result }
 {
     search.rules.stands();
-    let Some(found) = search.rules.star(star) else {
-        return None;
-    };
+    let found = search.rules.star(star)?;
     for alternative in found.alternatives.as_slice() {
-        let missing = missing_in_ranges(search, star, alternative, alternative.ranges.as_slice(), env);
+        let missing = missing_in_ranges(
+            search,
+            star,
+            alternative,
+            alternative.ranges.as_slice(),
+            env,
+        );
         if let Some(goal) = missing {
             return Some(goal);
         }
@@ -71,7 +76,13 @@ pub fn missing_in_call(search: &Search<'_>, star: &Name, env: &Env) -> Option<Go
 
 // The same of an alternative of which these for-all names are still to be bound.
 #[cycle(asking)]
-fn missing_in_ranges(search: &Search<'_>, star: &Name, alternative: &Alternative, ranges: &[ForAll], env: &Env) -> Option<Goal>
+fn missing_in_ranges(
+    search: &Search<'_>,
+    star: &Name,
+    alternative: &Alternative,
+    ranges: &[ForAll],
+    env: &Env,
+) -> Option<Goal>
     requires posed { IsPosed search.now }
     requires inside { IsInside search.now star.now alternative.now ranges.now env.now }
     ensures { FirstMissing search.now.memo.now (AsksOver search.now.query.now search.now.rules.now alternative.now ranges.now env.now) result }
@@ -84,7 +95,14 @@ fn missing_in_ranges(search: &Search<'_>, star: &Name, alternative: &Alternative
 
 // The same where the first of these names is bound to each member of its range in turn.
 #[cycle(asking)]
-fn missing_in_members(search: &Search<'_>, star: &Name, alternative: &Alternative, first: &ForAll, more: &[ForAll], env: &Env) -> Option<Goal>
+fn missing_in_members(
+    search: &Search<'_>,
+    star: &Name,
+    alternative: &Alternative,
+    first: &ForAll,
+    more: &[ForAll],
+    env: &Env,
+) -> Option<Goal>
     requires posed { IsPosed search.now }
     requires inside { IsInside search.now star.now alternative.now (first.now ∷ more.now) env.now }
     ensures { FirstMissing search.now.memo.now (AsksOver search.now.query.now search.now.rules.now alternative.now (first.now ∷ more.now) env.now) result }
@@ -100,14 +118,20 @@ fn missing_in_members(search: &Search<'_>, star: &Name, alternative: &Alternativ
 
 // The same where all are bound.
 #[cycle(asking)]
-fn missing_in_body(search: &Search<'_>, star: &Name, alternative: &Alternative, env: &Env) -> Option<Goal>
+fn missing_in_body(
+    search: &Search<'_>,
+    star: &Name,
+    alternative: &Alternative,
+    env: &Env,
+) -> Option<Goal>
     requires posed { IsPosed search.now }
     requires inside { IsInside search.now star.now alternative.now [] env.now }
     ensures { FirstMissing search.now.memo.now (AsksOver search.now.query.now search.now.rules.now alternative.now [] env.now) result }
 {
     search.rules.stands();
-    if !meets(&alternative.condition, env, search.query) {
-        return None;
+    if meets(&alternative.condition, env, search.query) {
+        missing_in(search, &alternative.body, env)
+    } else {
+        None
     }
-    missing_in(search, &alternative.body, env)
 }

@@ -2,6 +2,7 @@
 #![tactic(auto)]
 
 mod expanding;
+pub mod theorems;
 
 pub use asked_goals::closed;
 pub use expanding::expand;
