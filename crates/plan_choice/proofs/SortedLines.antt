@@ -1,31 +1,28 @@
 -- The sorted vectors of a set of what is best for the query's goal are the list of its frontier.
-use Rattle.std.proofs.Common.{◌≡◌, ℕ, ◌<◌, Bool, true, false, List, [], ◌∷◌, length, get_or, map, refl, sym, ap, subst, ◌∙◌, ◌&&◌, nat_eq, arith}
+use Rattle.std.proofs.Common.{◌≡◌, ℕ, ◌<◌, Bool, true, false, List, [], ◌∷◌, length, get_or, map, refl, sym, ap, subst, ◌∙◌, arith}
 use Rattle.std.specs.Prelude.{Contains, AllPairs, Result, Ok, Err, IfOk}
 use Rattle.std.specs.declared.alloc.AllocError.{AllocError}
 use Rattle.std.specs.List.Sorted.{IsPermutation, IsSortedBy}
 use Rattle.std.specs.Ordering.{is_lt, is_eq, ordering_reverse}
 use Rattle.std.specs.declared.cmp.Ordering.{Ordering}
 use Rattle.std.specs.declared.cmp.Ordering.TheVariants.{Less, Equal, Greater}
-use Rattle.std.proofs.lemmas.Bool.{and_parts, eqb-true}
 use Rattle.std.proofs.lemmas.List.{get_or-map, length-map, get_or_default}
 use Rattle.std.proofs.lemmas.List.Elements.{Contains-get_or}
 use Rattle.std.proofs.lemmas.List.Sorted.{ranks_by, sorted_far, Contains-permutation, IsPermutation-sym}
 use Rattle.std.proofs.lemmas.Map.Keys.{IsDistinct-from_apart, IsDistinct-IsPermutation, apart_from_distinct}
 use Rattle.star_model.specs.Cardinality.{card}
 use Rattle.star_model.specs.Expected.{ForGoal, query_goal}
-use Rattle.star_model.specs.Goals.{is_target}
-use Rattle.star_model.specs.Predicates.{all_quants, used, eligible}
-use Rattle.star_model.specs.Sets.{union}
-use Rattle.star_model.specs.Vectors.{same_numbers}
+use Rattle.star_model.specs.Predicates.{all_quants}
+use Rattle.star_model.specs.Vectors.{is_better}
 use Rattle.star_model.specs.declared.plans.Props.{Props}
 use Rattle.star_model.specs.declared.query.Query.{Query}
 use Rattle.star_model.specs.declared.rules.RuleFile.{RuleFile}
-use Rattle.star_model.proofs.Laws.{same_are}
 use Rattle.lolepop.specs.Derived.{DerivedPlan, vector_of}
 use Rattle.exchange.specs.Places.{IsDerived, IsBestOf}
-use Rattle.exchange.proofs.Laws.{goal_ways, has_card, has_frontier, vectors_once, best_derived}
+use Rattle.exchange.proofs.Laws.{has_card, has_frontier, vectors_once, best_derived, best_above, plan_of_vector}
 use Rattle.plan_choice.specs.LineOrder.{line_cmp}
 use Rattle.plan_choice.specs.FrontierLists.{IsFrontierList}
+use Rattle.plan_choice.proofs.Targets.{has_target, relation}
 use Rattle.plan_choice.proofs.LineOrderLaws.{line_total, equal_line}
 
 -- ---- lists of what a function gives
@@ -93,26 +90,11 @@ rises vs ws apart moved sorted i j d before within =
 -- ---- the frontier
 
 module _ (q : Query) (rules : RuleFile) where
-  has_target : (s j : ℕ) (e : DerivedPlan) → IsDerived q rules (ForGoal s j) e → is_target q s j (vector_of e) ≡ true
-  has_target s j e derived =
-      let (split, (i, may, made, (target, is))) = (goal_ways q rules s j e).0 derived in ap (λ (x : DerivedPlan). is_target q s j (vector_of x)) is ∙ target
-
-  record Relation (s j : ℕ) (v : Props) : Type 0 where
-    tables : v.tables ≡ s
-    cols : v.cols ≡ used q s
-    preds : v.preds ≡ union (eligible q s) j
-
-  relation : (s j : ℕ) (v : Props) → is_target q s j v ≡ true → Relation s j v
-  relation s j v target =
-      let a = and_parts (nat_eq v.tables s && same_numbers v.cols (used q s)) (nat_eq v.preds (union (eligible q s) j)) target in
-      let b = and_parts (nat_eq v.tables s) (same_numbers v.cols (used q s)) a.0 in
-      record { tables = eqb-true v.tables s b.0; cols = same_are v.cols (used q s) b.1; preds = eqb-true v.preds (union (eligible q s) j) a.1 }
-
   -- two plans of one goal with one line have one vector
   one_line : (s j : ℕ) (e f : DerivedPlan) → IsDerived q rules (ForGoal s j) e → IsDerived q rules (ForGoal s j) f → line_cmp (vector_of e) (vector_of f) ≡ Equal → vector_of e ≡ vector_of f
   one_line s j e f there here equal =
-      let a = relation s j (vector_of e) (has_target s j e there) in
-      let b = relation s j (vector_of f) (has_target s j f here) in
+      let a = relation q s j (vector_of e) (has_target q rules s j e there) in
+      let b = relation q s j (vector_of f) (has_target q rules s j f here) in
       let tables = a.tables ∙ sym b.tables in
       let preds = a.preds ∙ sym b.preds in
       let rows = has_card q rules (ForGoal s j) e there ∙ (λ i. card q (tables i) (preds i)) ∙ sym (has_card q rules (ForGoal s j) f here) in
@@ -139,6 +121,11 @@ module _ (q : Query) (rules : RuleFile) where
           let m = (has_frontier q rules (all_quants q) 0 plans best v).1 on in
           Contains-permutation (map vector_of plans) list v moved (subst (Contains (map vector_of plans)) m.2 (contains_made vector_of plans m.0 m.1))),
     );
+    above = λ v of.
+        let e = plan_of_vector q rules (query_goal q) of.0 v of.1 in
+        let m = best_above q rules (query_goal q) plans best e.0 e.1 in
+        let (k, within, at) = Contains-permutation (map vector_of plans) list (vector_of m.0) moved (contains_made vector_of plans m.0 m.1) in
+        (k, vector_of m.0, within, at, ap (is_better (vector_of m.0)) (sym e.2) ∙ m.2);
     rising = rises (map vector_of plans) list (lines_differ (all_quants q) 0 plans best) moved sorted;
   }
 

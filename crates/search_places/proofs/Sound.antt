@@ -95,10 +95,12 @@ to_alternative s star b d i a formed accepted goal leads named at = within (goal
       numbers = (let ranges = few_ranges in omega (arith, ranges));
     }
 
--- the roots are there
-pub root_is_there : (rules : RuleFile) (r : Root) → IsAccepted rules → IsSome (star_named rules (root_name r))
-root_is_there rules r accepted = is_there (star_named rules (root_name r)) (accepted.roots r)
+-- the roots are there, by letters that the code has
+pub root_is_there : (rules own : RuleFile) (r : Root) (letters : List ℕ) → IsAccepted rules → own ≡ rules → letters ≡ root_name rules r → IsSome (star_named own letters)
+root_is_there rules own r letters accepted same are =
+    subst (λ (file : RuleFile). IsSome (star_named file letters)) (sym same)
+    (subst (λ (name : List ℕ). IsSome (star_named rules name)) (sym are) (is_there (star_named rules (root_name rules r)) (accepted.roots r)))
   where
     is_there : (o : Option StarDef) → not (is_some o) ≡ false → IsSome o
-    is_there None h = absurd (false≢true (sym h))
-    is_there (Some d) h = tt
+    is_there None h = sym h
+    is_there (Some d) h = refl

@@ -49,7 +49,7 @@ one_bound s star n a f fs picked c w m among = record {
 }
 
 -- a number of the list, each of whose numbers stands with its member
-among_numbered : {A : Type 0} (at : ℕ → A) (ns : List ℕ) (m : ℕ) (v : A) → Contains (map (λ n. (n, at n)) ns) (m, v) → Contains ns m × (at m ≡ v)
+among_numbered : {A : Type 0} (at : ℕ → A) (ns : List ℕ) (m : ℕ) (v : A) → Contains {X = ℕ × A} (map (λ n. (n, at n)) ns) (m, v) → Contains ns m × (at m ≡ v)
 among_numbered at [] m v (k, below, is) = let no : ⊥ = omega (arith, below) in absurd no
 among_numbered {A} at (n ∷ ns) m v (zero, below, is) =
     let same : n ≡ m = ap (λ (p : ℕ × A). p.0) is in
@@ -65,7 +65,7 @@ pub member_bound : (s : Search) (star : List ℕ) (n : ℕ) (a : Alternative) (f
     → numbers ≡ picked ++ (m + 1) ∷ [] → next ≡ c ++ v ∷ [] → IsWithin s star n a fs numbers next
 member_bound s star n a f fs picked c w seen left later m v numbers next all at is_numbers is_next =
     let whole : map (λ m. (m, member_at f.range m)) (numbers_of s.query.now c f.range) ≡ seen ++ (m, v) ∷ later = all ∙ ap (λ (xs : List (ℕ × RuleValue)). seen ++ xs) at in
-    let there = subst (λ (xs : List (ℕ × RuleValue)). Contains xs (m, v)) (sym whole) (Contains-append_right seen ((m, v) ∷ later) (m, v) (0, omega arith, refl)) in
+    let there = subst (λ (xs : List (ℕ × RuleValue)). Contains {X = ℕ × RuleValue} xs (m, v)) (sym whole) (Contains-append_right {X = ℕ × RuleValue} seen ((m, v) ∷ later) (m, v) (0, omega arith, refl)) in
     let among = among_numbered (member_at f.range) (numbers_of s.query.now c f.range) m v there in
     let bound = one_bound s star n a f fs picked c w m among.0 in
     subst (λ (ns : List ℕ). IsWithin s star n a fs ns next) (sym is_numbers)

@@ -49,7 +49,6 @@ over_members q b s = ap (map (member_at (over.Members (as_quants (meaning q b s)
 pub over_each : (q : Query) (b : List RuleValue) (p : ValueExpr) → members_from q (over.Each (as_preds (meaning q b p))) 0 ≡ members_of q b (range.Each p)
 over_each q b p = ap (map (member_at (over.Each (as_preds (meaning q b p))))) (members_passing (as_preds (meaning q b p)))
 
-
 -- ---- the same with numbers
 
 pub first_numbered : (q : Query) (o : Over) (n k : ℕ) → NumberFrom (passes q o) n (end_of o) k → k < end_of o → numbered_from q o n ≡ (k, member_at o k) ∷ numbered_from q o (k + 1)

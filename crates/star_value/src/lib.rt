@@ -18,4 +18,5 @@ pub use conditions::holds;
 pub use env::Env;
 pub use numbers::{NumberedIter, numbered};
 pub use ranges::{RangeIter, range};
+pub use streams::tables_of;
 pub use values::value;

@@ -50,7 +50,6 @@ impl Memo {
     }
 
     /// The set of the goal, if it is held. It takes no memory.
-    #[tactic(auto, using(crate::proofs::MemoLaws::memo_rules))]
     pub fn get(&self, goal: &Goal) -> Option<&PlanSet<Entry>>
         ensures { option_copied result ≡ plans_at self.now goal.now }
     {
@@ -58,7 +57,6 @@ impl Memo {
     }
 
     /// Adds the goal with its set. Where memory is wanting, the memo stays as it is and the set is dropped.
-    #[tactic(auto, using(crate::proofs::MemoLaws::memo_rules))]
     pub fn put(&mut self, goal: Goal, plans: PlanSet<Entry>) -> Result<(), AllocError>
         requires { plans_at self.old goal ≡ None }
         ensures put { OnOk result (self.new ≡ self.old ++ (goal, plans) ∷ []) }
@@ -69,11 +67,11 @@ impl Memo {
     }
 
     /// Takes the goal with its set out, if it is held. The others keep their order. It takes no memory.
-    #[tactic(auto, using(crate::proofs::MemoLaws::memo_rules))]
     pub fn remove(&mut self, goal: &Goal) -> Option<PlanSet<Entry>>
         ensures set { result ≡ plans_at self.old goal.now }
         ensures others { self.new ≡ filter (λ s. not (same_goal goal.now s.0)) self.old }
     {
+        self.each_once();
         self.sets.shift_remove(goal)
     }
 

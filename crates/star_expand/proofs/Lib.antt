@@ -1,0 +1,3 @@
+mod Growing
+mod AskedLaws
+pub mod Laws

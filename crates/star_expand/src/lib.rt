@@ -1,0 +1,8 @@
+//! The sets of plans of all goals that a goal asks for, each made once.
+#![tactic(auto)]
+
+mod expanding;
+pub mod theorems;
+
+pub use asked_goals::closed;
+pub use expanding::expand;
