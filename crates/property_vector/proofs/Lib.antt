@@ -1,4 +1,3 @@
 mod CanonWalks
 mod Antisymmetry
-mod CostsFirst
 pub mod Laws
