@@ -1,1 +1,4 @@
 mod Growing
+mod AskedGoals
+mod EmptyMemos
+pub mod Laws
