@@ -1,4 +1,4 @@
 mod Growing
-mod AskedGoals
+mod AskedLaws
 mod EmptyMemos
 pub mod Laws
