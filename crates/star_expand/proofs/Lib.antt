@@ -1,3 +1,4 @@
 mod Growing
 mod AskedLaws
+mod EmptyMemos
 pub mod Laws
