@@ -6,6 +6,7 @@ DISTURBS = {
     "formulas::values": ["formulas::", "operators::", "plans::", "rule_files::"],
     "formulas::": ["rule_files::"],
     "kinds::": ["rule_files::"],
+    "operators::canon": ["operators::", "plans::"],
     "operators::satisfies": ["plans::"],
     "operators::target": ["plans::"],
     "operators::chain": ["plans::"],
@@ -237,6 +238,15 @@ CHANGES = {
         ("Vectors", "better with other columns", "same_numbers v.cols w.cols && nat_eq v.preds w.preds", "nat_eq v.preds w.preds"),
         ("Vectors", "better with other predicates", "same_numbers v.cols w.cols && nat_eq v.preds w.preds", "same_numbers v.cols w.cols"),
     ],
+    "operators::canon": [
+        ("Canon", "equal where any comparison holds", "equal_columns s c cmp.Eq (operand.Column d)", "equal_columns s c _ (operand.Column d)"),
+        ("Canon", "equalities with other quantifiers", "has s c.quant.0 && has s d.quant.0", "has s c.quant.0 || has s d.quant.0"),
+        ("Canon", "the higher column for the lower", "lower c d = if is_lower d c then d else c", "lower c d = if is_lower d c then c else d"),
+        ("Canon", "lower by the column's number alone", "is_lower c d = nat_lt c.quant.0 d.quant.0 || (nat_eq c.quant.0 d.quant.0 && nat_lt c.column d.column)", "is_lower c d = nat_lt c.column d.column"),
+        ("Canon", "lower by the quantifier's number alone", " || (nat_eq c.quant.0 d.quant.0 && nat_lt c.column d.column)", ""),
+        ("Canon", "merges of the pairs as they stand", "with_merge made pair = made ++ (after_merges made pair.0, after_merges made pair.1) ∷ []", "with_merge made pair = made ++ pair ∷ []"),
+        ("Canon", "repeats are kept", "distinct (c ∷ cs) = c ∷ filter (λ d. not (same_column c d)) (distinct cs)", "distinct (c ∷ cs) = c ∷ distinct cs"),
+    ],
     "operators::chain": [
         ("Plans", "a chain with repeats", "names r o && list_all (differs o) os && is_chain r os", "names r o && is_chain r os"),
         ("Plans", "a chain of anything", "names r o && list_all (differs o) os && is_chain r os", "list_all (differs o) os && is_chain r os"),
@@ -262,12 +272,13 @@ CHANGES = {
         ("Operators", "a link need not touch the second", "is_equality p && touches v.tables p && touches w.tables p", "is_equality p && touches v.tables p"),
         ("Operators", "JOIN_HASH without the first's columns", "has_columns_of q (union m p) v && has_columns_of q (union m p) w", "has_columns_of q (union m p) w"),
         ("Operators", "JOIN_HASH without the second's columns", "has_columns_of q (union m p) v && has_columns_of q (union m p) w", "has_columns_of q (union m p) v"),
-        ("Operators", "JOIN_HASH keeps the order", "order_after q (op.JoinHash m p) ins = []", "order_after q (op.JoinHash m p) ins = first_order ins"),
+        ("Operators", "JOIN_HASH keeps the order", "sorted_by q (op.JoinHash m p) ins = []", "sorted_by q (op.JoinHash m p) ins = first_order ins"),
         ("Operators", "JOIN_HASH applies M alone", "applied (op.JoinHash m p) = union m p", "applied (op.JoinHash m p) = m"),
     ],
     "operators::join_merge": [
-        ("Operators", "JOIN_MERGE of an unsorted outer input", "begins (keys_of q m v.tables) v.order && begins (keys_of q m w.tables) w.order", "begins (keys_of q m w.tables) w.order"),
-        ("Operators", "JOIN_MERGE of an unsorted inner input", "begins (keys_of q m v.tables) v.order && begins (keys_of q m w.tables) w.order", "begins (keys_of q m v.tables) v.order"),
+        ("Operators", "JOIN_MERGE of an unsorted outer input", "is_sorted_by q (keys_of q m v.tables) v && is_sorted_by q (keys_of q m w.tables) w", "is_sorted_by q (keys_of q m w.tables) w"),
+        ("Operators", "JOIN_MERGE of an unsorted inner input", "is_sorted_by q (keys_of q m v.tables) v && is_sorted_by q (keys_of q m w.tables) w", "is_sorted_by q (keys_of q m v.tables) v"),
+        ("Operators", "JOIN_MERGE compares the raw keys", "is_sorted_by q cols v = begins (canon q v.preds v.tables cols) v.order", "is_sorted_by q cols v = begins cols v.order"),
         ("Operators", "JOIN_MERGE applies P alone", "applied (op.JoinMerge m p) = union m p", "applied (op.JoinMerge m p) = p"),
     ],
     "operators::join_nl": [
@@ -280,12 +291,13 @@ CHANGES = {
     "operators::probe": [
         ("Operators", "PROBE by nothing", "not (is_empty_list c) && begins c e.path && has_columns_of q p e", "begins c e.path && has_columns_of q p e"),
         ("Operators", "PROBE of any path", "not (is_empty_list c) && begins c e.path && has_columns_of q p e", "not (is_empty_list c) && has_columns_of q p e"),
-        ("Operators", "PROBE keeps the order", "order_after q (op.Probe c p) ins = c", "order_after q (op.Probe c p) ins = first_order ins"),
+        ("Operators", "PROBE keeps the order", "sorted_by q (op.Probe c p) ins = c", "sorted_by q (op.Probe c p) ins = first_order ins"),
     ],
     "operators::satisfies": [
-        ("Vectors", "satisfies ignores the site", "begins r.order v.order && is_at r.site v.site &&", "begins r.order v.order &&"),
-        ("Vectors", "satisfies ignores the temporary", "(not r.temp || v.temp) && begins r.path v.path", "begins r.path v.path"),
-        ("Vectors", "satisfies ignores the path", "(not r.temp || v.temp) && begins r.path v.path", "(not r.temp || v.temp)"),
+        ("Requirements", "satisfies compares the order as it stands", "begins (canon q v.preds v.tables r.order) v.order", "begins r.order v.order"),
+        ("Requirements", "satisfies ignores the site", "v.order && is_at r.site v.site &&", "v.order &&"),
+        ("Requirements", "satisfies ignores the temporary", "(not r.temp || v.temp) && begins r.path v.path", "begins r.path v.path"),
+        ("Requirements", "satisfies ignores the path", "(not r.temp || v.temp) && begins r.path v.path", "(not r.temp || v.temp)"),
     ],
     "operators::ship": [
         ("Operators", "SHIP to the same site", "may_apply q (op.Ship s) (e ∷ []) = not (same_site s e.site)", "may_apply q (op.Ship s) (e ∷ []) = true"),
@@ -343,7 +355,7 @@ CHANGES = {
         ("Expected", "the root requires no site", "root_requirement q = record { order = q.order; site = q.site;", "root_requirement q = record { order = q.order; site = None;"),
     ],
     "plans::unsorted_input": [
-        ("Judging", "a Glue isn't held to its requirement", "(option_and_then (only_if (λ w. satisfies w g.0)) (chain_vector q (costs_of rules) g.0 chain v))", "(chain_vector q (costs_of rules) g.0 chain v)"),
+        ("Judging", "a Glue isn't held to its requirement", "(option_and_then (only_if (λ w. satisfies q w g.0)) (chain_vector q (costs_of rules) g.0 chain v))", "(chain_vector q (costs_of rules) g.0 chain v)"),
     ],
     "plans::predicate_missing": [
         ("Judging", "a goal isn't held to its target", "vector_or n (only_if (is_target q g.tables g.pushed) v)", "Vector v"),

@@ -56,7 +56,7 @@ ACCESS_HEAP {3} {} => tables {3} cols [t.id,t.name] preds {} order [] site branc
 ACCESS_HEAP {} {} => none
 ACCESS_HEAP {1,2} {} => none
 ACCESS_HEAP {1} {2} => none
-ACCESS_INDEX {2} emp_dno {1,7} => tables {2} cols [e.id,e.dno] preds {1,7} order [e.dno,e.id] site hq temp no path [] card 1 cost 12 rescan 12
+ACCESS_INDEX {2} emp_dno {1,7} => tables {2} cols [e.id,e.dno] preds {1,7} order [e.id] site hq temp no path [] card 1 cost 12 rescan 12
 ACCESS_INDEX {1,2} emp_dno {} => none
 ACCESS_INDEX {1} emp_dno {} => none
 ACCESS_INDEX {2} emp_dno {4} => none
@@ -70,7 +70,7 @@ ACCESS_INDEX {2} emp_dno {1}; GET {2} {6} => none";
 
 // Other operators over one input.
 const CHANGES: &str =
-    "ACCESS_INDEX {2} emp_dno {}; FILTER {2,7} => tables {2} cols [e.id,e.dno] preds {2,7} order [e.dno,e.id] site hq temp no path [] card 1 cost 3210 rescan 3210
+    "ACCESS_INDEX {2} emp_dno {}; FILTER {2,7} => tables {2} cols [e.id,e.dno] preds {2,7} order [e.id] site hq temp no path [] card 1 cost 3210 rescan 3210
 ACCESS_INDEX {2} emp_dno {}; FILTER {4} => none
 ACCESS_INDEX {2} emp_dno {}; FILTER {5} => none
 ACCESS_HEAP {2} {}; SORT [e.name,e.id] => tables {2} cols [e.id,e.dno,e.name] preds {} order [e.name,e.id] site hq temp no path [] card 1000 cost 6000 rescan 6000
@@ -118,7 +118,7 @@ ACCESS_HEAP {3} {}; SHIP hq; ACCESS_INDEX {1} dept_id {}; JOIN_HASH {5} {} => no
 ACCESS_HEAP {1} {}; ACCESS_INDEX {2} emp_dno {}; JOIN_HASH {1} {4} => none
 ACCESS_HEAP {1} {}; ACCESS_HEAP {2} {}; JOIN_HASH {1} {6} => none
 ACCESS_INDEX {1} dept_id {}; ACCESS_INDEX {2} emp_dno {}; JOIN_MERGE {1} {3} => tables {1,2} cols [d.id,e.id,e.dno] preds {1,3} order [d.id] site hq temp no path [] card 1000 cost 2250 rescan 2250
-ACCESS_INDEX {2} emp_dno {}; ACCESS_HEAP {1} {}; SORT [d.id,d.town]; JOIN_MERGE {1} {} => tables {1,2} cols [d.id,d.town,e.id,e.dno] preds {1} order [e.dno,e.id] site hq temp no path [] card 1000 cost 2280 rescan 2280
+ACCESS_INDEX {2} emp_dno {}; ACCESS_HEAP {1} {}; SORT [d.id,d.town]; JOIN_MERGE {1} {} => tables {1,2} cols [d.id,d.town,e.id,e.dno] preds {1} order [d.id,e.id] site hq temp no path [] card 1000 cost 2280 rescan 2280
 ACCESS_HEAP {1} {}; ACCESS_INDEX {2} emp_dno {}; JOIN_MERGE {1} {} => none
 ACCESS_INDEX {1} dept_id {}; ACCESS_HEAP {2} {}; JOIN_MERGE {1} {} => none
 ACCESS_INDEX {1} dept_id {}; ACCESS_HEAP {2} {}; SORT [e.id,e.dno]; JOIN_MERGE {1} {} => none

@@ -5,6 +5,7 @@ use Rattle.std.specs.Option.{option_map}
 use Rattle.star_model.specs.Formulas.{value}
 use Rattle.star_model.specs.Monotone.{passes, first_offending}
 use Rattle.star_model.specs.Meaning.{meaning, holds, members_of}
+use Rattle.star_model.specs.Canon.{canon}
 use Rattle.star_model.specs.Requirements.{satisfies}
 use Rattle.star_model.specs.Vectors.{is_better}
 use Rattle.star_model.specs.Cardinality.{card}
@@ -26,6 +27,7 @@ use Rattle.star_model.specs.declared.rules.StarDef.{StarDef}
 use Rattle.star_model.specs.declared.rules.FormulaDef.{FormulaDef}
 use Rattle.star_model.specs.declared.formula.Formula.{Formula}
 use Rattle.star_model.specs.declared.formula.Vars.{Vars}
+use Rattle.star_model.specs.declared.columns.Col.{Col}
 use Rattle.star_model.specs.declared.query.Query.{Query}
 use Rattle.star_model.specs.declared.rules.RuleFile.{RuleFile}
 use Rattle.star_model.specs.declared.rules.ValueExpr.{ValueExpr}
@@ -183,3 +185,7 @@ AreChainsAs rows = map (λ row. is_chain row.0 row.1) rows ≡ map (λ row. row.
 -- the estimated rows of quantifiers under predicates
 abbrev pub HasCards : Query → List (ℕ × ℕ × ℕ) → Type 0
 HasCards query rows = map (λ row. card query row.0 row.1) rows ≡ map (λ row. row.2) rows
+
+-- the canonical forms of orders under some predicates, within some quantifiers
+abbrev pub AreCanonicalAs : Query → List (List Col × ℕ × ℕ × List Col) → Type 0
+AreCanonicalAs query rows = map (λ row. canon query row.1 row.2 row.0) rows ≡ map (λ row. row.3) rows

@@ -94,6 +94,12 @@ joined_elsewhere = (d.Glue (glue.Ship ∷ []) (d.Goal (record { tables = 3; push
 abbrev pub merged_by_index : Deriv
 merged_by_index = (d.Glue [] (d.Goal (record { tables = 3; pushed = 0 }) (Some (1, 2)) (d.Reference (codes "JoinRoot") 1 (1 ∷ []) (d.Reference (codes "JoinAt") 3 [] (d.Reference (codes "Keyed") 1 [] (d.Binary flavour.JoinMerge (d.Glue (glue.Sort ∷ []) (d.Goal (record { tables = 1; pushed = 0 }) None (d.Reference (codes "AccessRoot") 1 [] (derivation.Leaf flavour.AccessHeap)))) (d.Glue [] (d.Goal (record { tables = 2; pushed = 0 }) None (d.Reference (codes "AccessRoot") 2 (1 ∷ []) (derivation.Leaf flavour.AccessIndex))))))))))
 
+abbrev pub merged_in_order : Deriv
+merged_in_order = (d.Glue [] (d.Goal (record { tables = 3; pushed = 0 }) (Some (1, 2)) (d.Reference (codes "JoinRoot") 1 [] (d.Reference (codes "Keyed") 1 [] (d.Binary flavour.JoinMerge (d.Glue (glue.Sort ∷ []) (d.Goal (record { tables = 1; pushed = 0 }) None (d.Reference (codes "AccessRoot") 1 [] (derivation.Leaf flavour.AccessHeap)))) (d.Glue (glue.Sort ∷ []) (d.Goal (record { tables = 2; pushed = 0 }) None (d.Reference (codes "AccessRoot") 1 [] (derivation.Leaf flavour.AccessHeap)))))))))
+
+abbrev pub merged_then_sorted : Deriv
+merged_then_sorted = (d.Glue (glue.Sort ∷ []) (d.Goal (record { tables = 3; pushed = 0 }) (Some (1, 2)) (d.Reference (codes "JoinRoot") 1 [] (d.Reference (codes "Keyed") 1 [] (d.Binary flavour.JoinMerge (d.Glue (glue.Sort ∷ []) (d.Goal (record { tables = 1; pushed = 0 }) None (d.Reference (codes "AccessRoot") 1 [] (derivation.Leaf flavour.AccessHeap)))) (d.Glue (glue.Sort ∷ []) (d.Goal (record { tables = 2; pushed = 0 }) None (d.Reference (codes "AccessRoot") 1 [] (derivation.Leaf flavour.AccessHeap)))))))))
+
 abbrev pub no_split : Deriv
 no_split = (d.Glue [] (d.Goal (record { tables = 3; pushed = 0 }) None (d.Reference (codes "JoinRoot") 1 [] (d.Binary flavour.JoinNl (d.Glue [] (d.Goal (record { tables = 1; pushed = 0 }) None (d.Reference (codes "AccessRoot") 1 [] (derivation.Leaf flavour.AccessHeap)))) (d.Glue [] (d.Goal (record { tables = 2; pushed = 0 }) None (d.Reference (codes "AccessRoot") 1 [] (derivation.Leaf flavour.AccessHeap))))))))
 

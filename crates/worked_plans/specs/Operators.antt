@@ -1,6 +1,7 @@
 -- Written by tools/worked_plans.
 -- Operators over streams, with the vectors of their results, and what is said of vectors.
 use Rattle.std.specs.Prelude.{ℕ, Bool, true, false, List, [], ◌∷◌, Option, Some, None}
+use Rattle.star_model.specs.declared.columns.Col.{Col}
 use Rattle.star_model.specs.declared.plans.Props.{Props}
 use Rattle.star_model.specs.declared.plans.Require.{Require}
 use Rattle.star_model.specs.declared.plans.Op.{Op}
@@ -118,6 +119,39 @@ e_of_compared_under_standard = record { tables = 1; cols = (7 ∷ 0 ∷ 0 ∷ 0 
 
 abbrev pub f_of_compared_under_standard : Props
 f_of_compared_under_standard = record { tables = 2; cols = (0 ∷ 3 ∷ 0 ∷ 0 ∷ 0 ∷ 0 ∷ 0 ∷ 0 ∷ 0 ∷ 0 ∷ 0 ∷ 0 ∷ []); preds = 0; order = []; site = record { 0 = 0 }; temp = false; path = []; card = 1000; cost = 2000; rescan = 2000 }
+
+abbrev pub l_of_words_by_both_under_merge : Props
+l_of_words_by_both_under_merge = record { tables = 1; cols = (1 ∷ 0 ∷ 0 ∷ 0 ∷ 0 ∷ 0 ∷ 0 ∷ 0 ∷ 0 ∷ 0 ∷ 0 ∷ 0 ∷ []); preds = 0; order = (record { quant = record { 0 = 0 }; column = 0 } ∷ []); site = record { 0 = 0 }; temp = false; path = []; card = 2; cost = 20; rescan = 20 }
+
+abbrev pub r_of_words_by_both_under_merge : Props
+r_of_words_by_both_under_merge = record { tables = 2; cols = (0 ∷ 3 ∷ 0 ∷ 0 ∷ 0 ∷ 0 ∷ 0 ∷ 0 ∷ 0 ∷ 0 ∷ 0 ∷ 0 ∷ []); preds = 0; order = (record { quant = record { 0 = 1 }; column = 0 } ∷ []); site = record { 0 = 0 }; temp = false; path = []; card = 3; cost = 25; rescan = 25 }
+
+abbrev pub merged_of_words_by_both_under_merge : Props
+merged_of_words_by_both_under_merge = record { tables = 3; cols = (1 ∷ 3 ∷ 0 ∷ 0 ∷ 0 ∷ 0 ∷ 0 ∷ 0 ∷ 0 ∷ 0 ∷ 0 ∷ 0 ∷ []); preds = 1; order = (record { quant = record { 0 = 0 }; column = 0 } ∷ []); site = record { 0 = 0 }; temp = false; path = []; card = 6; cost = 50; rescan = 50 }
+
+abbrev pub crossed_of_words_by_both_under_merge : Props
+crossed_of_words_by_both_under_merge = record { tables = 3; cols = (1 ∷ 3 ∷ 0 ∷ 0 ∷ 0 ∷ 0 ∷ 0 ∷ 0 ∷ 0 ∷ 0 ∷ 0 ∷ 0 ∷ []); preds = 0; order = (record { quant = record { 0 = 0 }; column = 0 } ∷ []); site = record { 0 = 0 }; temp = false; path = []; card = 6; cost = 50; rescan = 50 }
+
+abbrev pub e_of_own_department_under_standard : Props
+e_of_own_department_under_standard = record { tables = 1; cols = (3 ∷ 0 ∷ 0 ∷ 0 ∷ 0 ∷ 0 ∷ 0 ∷ 0 ∷ 0 ∷ 0 ∷ 0 ∷ 0 ∷ []); preds = 1; order = []; site = record { 0 = 0 }; temp = false; path = []; card = 1; cost = 2000; rescan = 2000 }
+
+abbrev pub by_index_of_own_department_under_standard : Props
+by_index_of_own_department_under_standard = record { tables = 1; cols = (3 ∷ 0 ∷ 0 ∷ 0 ∷ 0 ∷ 0 ∷ 0 ∷ 0 ∷ 0 ∷ 0 ∷ 0 ∷ 0 ∷ []); preds = 0; order = (record { quant = record { 0 = 0 }; column = 1 } ∷ record { quant = record { 0 = 0 }; column = 0 } ∷ []); site = record { 0 = 0 }; temp = false; path = []; card = 1000; cost = 1210; rescan = 1210 }
+
+abbrev pub stored_of_own_department_under_standard : Props
+stored_of_own_department_under_standard = record { tables = 1; cols = (3 ∷ 0 ∷ 0 ∷ 0 ∷ 0 ∷ 0 ∷ 0 ∷ 0 ∷ 0 ∷ 0 ∷ 0 ∷ 0 ∷ []); preds = 0; order = (record { quant = record { 0 = 0 }; column = 1 } ∷ record { quant = record { 0 = 0 }; column = 0 } ∷ []); site = record { 0 = 0 }; temp = true; path = (record { quant = record { 0 = 0 }; column = 1 } ∷ record { quant = record { 0 = 0 }; column = 0 } ∷ []); card = 1000; cost = 3210; rescan = 1000 }
+
+abbrev pub d_of_colleagues_under_standard : Props
+d_of_colleagues_under_standard = record { tables = 1; cols = (1 ∷ 0 ∷ 0 ∷ 0 ∷ 0 ∷ 0 ∷ 0 ∷ 0 ∷ 0 ∷ 0 ∷ 0 ∷ 0 ∷ []); preds = 0; order = (record { quant = record { 0 = 0 }; column = 0 } ∷ []); site = record { 0 = 0 }; temp = false; path = []; card = 10; cost = 60; rescan = 60 }
+
+abbrev pub e_of_colleagues_under_standard : Props
+e_of_colleagues_under_standard = record { tables = 2; cols = (0 ∷ 3 ∷ 0 ∷ 0 ∷ 0 ∷ 0 ∷ 0 ∷ 0 ∷ 0 ∷ 0 ∷ 0 ∷ 0 ∷ []); preds = 0; order = (record { quant = record { 0 = 1 }; column = 1 } ∷ record { quant = record { 0 = 1 }; column = 0 } ∷ []); site = record { 0 = 0 }; temp = false; path = []; card = 1000; cost = 1210; rescan = 1210 }
+
+abbrev pub f_of_colleagues_under_standard : Props
+f_of_colleagues_under_standard = record { tables = 4; cols = (0 ∷ 0 ∷ 2 ∷ 0 ∷ 0 ∷ 0 ∷ 0 ∷ 0 ∷ 0 ∷ 0 ∷ 0 ∷ 0 ∷ []); preds = 0; order = (record { quant = record { 0 = 2 }; column = 1 } ∷ record { quant = record { 0 = 2 }; column = 0 } ∷ []); site = record { 0 = 0 }; temp = false; path = []; card = 1000; cost = 1210; rescan = 1210 }
+
+abbrev pub pairs_of_colleagues_under_standard : Props
+pairs_of_colleagues_under_standard = record { tables = 3; cols = (1 ∷ 3 ∷ 0 ∷ 0 ∷ 0 ∷ 0 ∷ 0 ∷ 0 ∷ 0 ∷ 0 ∷ 0 ∷ 0 ∷ []); preds = 1; order = (record { quant = record { 0 = 0 }; column = 0 } ∷ []); site = record { 0 = 0 }; temp = false; path = []; card = 1000; cost = 2280; rescan = 2280 }
 
 abbrev pub access_heap_of_cities_under_standard : List (Op × List Props × Option Props)
 access_heap_of_cities_under_standard =
@@ -440,6 +474,12 @@ card_of_french_orders_under_standard =
     ∷ (31, 63, 80000)
     ∷ []
 
+abbrev pub canon_of_french_orders_under_standard : List (List Col × ℕ × ℕ × List Col)
+canon_of_french_orders_under_standard =
+    ((record { quant = record { 0 = 1 }; column = 0 } ∷ record { quant = record { 0 = 0 }; column = 1 } ∷ record { quant = record { 0 = 0 }; column = 0 } ∷ []), 1, 3, (record { quant = record { 0 = 0 }; column = 1 } ∷ record { quant = record { 0 = 0 }; column = 0 } ∷ []))
+    ∷ ((record { quant = record { 0 = 3 }; column = 0 } ∷ record { quant = record { 0 = 2 }; column = 1 } ∷ []), 28, 13, (record { quant = record { 0 = 2 }; column = 0 } ∷ record { quant = record { 0 = 0 }; column = 0 } ∷ []))
+    ∷ []
+
 abbrev pub access_heap_of_shipped_under_heaps : List (Op × List Props × Option Props)
 access_heap_of_shipped_under_heaps =
     ((op.AccessHeap 1 0), [], Some (t_of_shipped_under_heaps))
@@ -633,4 +673,105 @@ join_hash_of_compared_under_standard =
     ∷ ((op.JoinHash 128 64), (e_of_compared_under_standard ∷ f_of_compared_under_standard ∷ []), Some (record { tables = 3; cols = (7 ∷ 3 ∷ 0 ∷ 0 ∷ 0 ∷ 0 ∷ 0 ∷ 0 ∷ 0 ∷ 0 ∷ 0 ∷ 0 ∷ []); preds = 192; order = []; site = record { 0 = 0 }; temp = false; path = []; card = 100000; cost = 7000; rescan = 7000 }))
     ∷ ((op.JoinHash 32 0), (e_of_compared_under_standard ∷ f_of_compared_under_standard ∷ []), None)
     ∷ ((op.JoinHash 130 0), (e_of_compared_under_standard ∷ f_of_compared_under_standard ∷ []), None)
+    ∷ []
+
+abbrev pub canon_of_compared_under_standard : List (List Col × ℕ × ℕ × List Col)
+canon_of_compared_under_standard =
+    ((record { quant = record { 0 = 1 }; column = 0 } ∷ record { quant = record { 0 = 1 }; column = 1 } ∷ record { quant = record { 0 = 0 }; column = 0 } ∷ record { quant = record { 0 = 0 }; column = 1 } ∷ []), 511, 3, (record { quant = record { 0 = 1 }; column = 0 } ∷ record { quant = record { 0 = 0 }; column = 1 } ∷ record { quant = record { 0 = 0 }; column = 0 } ∷ []))
+    ∷ ((record { quant = record { 0 = 1 }; column = 1 } ∷ record { quant = record { 0 = 1 }; column = 0 } ∷ []), 64, 3, (record { quant = record { 0 = 1 }; column = 1 } ∷ record { quant = record { 0 = 1 }; column = 0 } ∷ []))
+    ∷ []
+
+abbrev pub join_merge_of_words_by_both_under_merge : List (Op × List Props × Option Props)
+join_merge_of_words_by_both_under_merge =
+    ((op.JoinMerge 1 0), (l_of_words_by_both_under_merge ∷ r_of_words_by_both_under_merge ∷ []), Some (merged_of_words_by_both_under_merge))
+    ∷ ((op.JoinMerge 1 0), (r_of_words_by_both_under_merge ∷ l_of_words_by_both_under_merge ∷ []), Some (merged_of_words_by_both_under_merge))
+    ∷ []
+
+abbrev pub sort_of_words_by_both_under_merge : List (Op × List Props × Option Props)
+sort_of_words_by_both_under_merge =
+    ((op.Sort (record { quant = record { 0 = 1 }; column = 0 } ∷ record { quant = record { 0 = 0 }; column = 0 } ∷ record { quant = record { 0 = 1 }; column = 1 } ∷ [])), (merged_of_words_by_both_under_merge ∷ []), Some (record { tables = 3; cols = (1 ∷ 3 ∷ 0 ∷ 0 ∷ 0 ∷ 0 ∷ 0 ∷ 0 ∷ 0 ∷ 0 ∷ 0 ∷ 0 ∷ []); preds = 1; order = (record { quant = record { 0 = 0 }; column = 0 } ∷ record { quant = record { 0 = 1 }; column = 1 } ∷ []); site = record { 0 = 0 }; temp = false; path = []; card = 6; cost = 74; rescan = 74 }))
+    ∷ []
+
+abbrev pub canon_of_words_by_both_under_merge : List (List Col × ℕ × ℕ × List Col)
+canon_of_words_by_both_under_merge =
+    ((record { quant = record { 0 = 1 }; column = 0 } ∷ record { quant = record { 0 = 0 }; column = 0 } ∷ record { quant = record { 0 = 1 }; column = 1 } ∷ []), 1, 3, (record { quant = record { 0 = 0 }; column = 0 } ∷ record { quant = record { 0 = 1 }; column = 1 } ∷ []))
+    ∷ ((record { quant = record { 0 = 1 }; column = 0 } ∷ record { quant = record { 0 = 0 }; column = 0 } ∷ record { quant = record { 0 = 1 }; column = 1 } ∷ []), 1, 2, (record { quant = record { 0 = 1 }; column = 0 } ∷ record { quant = record { 0 = 0 }; column = 0 } ∷ record { quant = record { 0 = 1 }; column = 1 } ∷ []))
+    ∷ ((record { quant = record { 0 = 1 }; column = 0 } ∷ record { quant = record { 0 = 0 }; column = 0 } ∷ record { quant = record { 0 = 1 }; column = 1 } ∷ []), 1, 1, (record { quant = record { 0 = 1 }; column = 0 } ∷ record { quant = record { 0 = 0 }; column = 0 } ∷ record { quant = record { 0 = 1 }; column = 1 } ∷ []))
+    ∷ ((record { quant = record { 0 = 1 }; column = 0 } ∷ record { quant = record { 0 = 0 }; column = 0 } ∷ record { quant = record { 0 = 1 }; column = 1 } ∷ []), 0, 3, (record { quant = record { 0 = 1 }; column = 0 } ∷ record { quant = record { 0 = 0 }; column = 0 } ∷ record { quant = record { 0 = 1 }; column = 1 } ∷ []))
+    ∷ ((record { quant = record { 0 = 0 }; column = 0 } ∷ record { quant = record { 0 = 1 }; column = 0 } ∷ []), 1, 3, (record { quant = record { 0 = 0 }; column = 0 } ∷ []))
+    ∷ ((record { quant = record { 0 = 1 }; column = 1 } ∷ record { quant = record { 0 = 1 }; column = 0 } ∷ record { quant = record { 0 = 1 }; column = 1 } ∷ []), 0, 2, (record { quant = record { 0 = 1 }; column = 1 } ∷ record { quant = record { 0 = 1 }; column = 0 } ∷ []))
+    ∷ ([], 1, 3, [])
+    ∷ []
+
+abbrev pub satisfies_of_words_by_both_under_merge : List (Props × Require × Bool)
+satisfies_of_words_by_both_under_merge =
+    (merged_of_words_by_both_under_merge, record { order = (record { quant = record { 0 = 0 }; column = 0 } ∷ record { quant = record { 0 = 1 }; column = 0 } ∷ []); site = None; temp = false; path = [] }, true)
+    ∷ (merged_of_words_by_both_under_merge, record { order = (record { quant = record { 0 = 1 }; column = 0 } ∷ []); site = None; temp = false; path = [] }, true)
+    ∷ (merged_of_words_by_both_under_merge, record { order = (record { quant = record { 0 = 1 }; column = 0 } ∷ record { quant = record { 0 = 1 }; column = 1 } ∷ []); site = None; temp = false; path = [] }, false)
+    ∷ (merged_of_words_by_both_under_merge, record { order = (record { quant = record { 0 = 1 }; column = 1 } ∷ []); site = None; temp = false; path = [] }, false)
+    ∷ (crossed_of_words_by_both_under_merge, record { order = (record { quant = record { 0 = 0 }; column = 0 } ∷ record { quant = record { 0 = 1 }; column = 0 } ∷ []); site = None; temp = false; path = [] }, false)
+    ∷ (crossed_of_words_by_both_under_merge, record { order = (record { quant = record { 0 = 1 }; column = 0 } ∷ []); site = None; temp = false; path = [] }, false)
+    ∷ []
+
+abbrev pub canon_of_chain_under_standard : List (List Col × ℕ × ℕ × List Col)
+canon_of_chain_under_standard =
+    ((record { quant = record { 0 = 3 }; column = 1 } ∷ record { quant = record { 0 = 2 }; column = 1 } ∷ record { quant = record { 0 = 1 }; column = 1 } ∷ record { quant = record { 0 = 0 }; column = 1 } ∷ []), 7, 15, (record { quant = record { 0 = 0 }; column = 1 } ∷ []))
+    ∷ ((record { quant = record { 0 = 3 }; column = 1 } ∷ record { quant = record { 0 = 2 }; column = 1 } ∷ record { quant = record { 0 = 1 }; column = 1 } ∷ record { quant = record { 0 = 0 }; column = 1 } ∷ []), 7, 14, (record { quant = record { 0 = 1 }; column = 1 } ∷ record { quant = record { 0 = 0 }; column = 1 } ∷ []))
+    ∷ ((record { quant = record { 0 = 3 }; column = 1 } ∷ record { quant = record { 0 = 2 }; column = 1 } ∷ record { quant = record { 0 = 1 }; column = 1 } ∷ record { quant = record { 0 = 0 }; column = 1 } ∷ []), 7, 11, (record { quant = record { 0 = 3 }; column = 1 } ∷ record { quant = record { 0 = 2 }; column = 1 } ∷ record { quant = record { 0 = 0 }; column = 1 } ∷ []))
+    ∷ ((record { quant = record { 0 = 3 }; column = 1 } ∷ record { quant = record { 0 = 2 }; column = 1 } ∷ record { quant = record { 0 = 1 }; column = 1 } ∷ record { quant = record { 0 = 0 }; column = 1 } ∷ []), 5, 15, (record { quant = record { 0 = 2 }; column = 1 } ∷ record { quant = record { 0 = 0 }; column = 1 } ∷ []))
+    ∷ ((record { quant = record { 0 = 3 }; column = 1 } ∷ record { quant = record { 0 = 2 }; column = 1 } ∷ record { quant = record { 0 = 1 }; column = 1 } ∷ record { quant = record { 0 = 0 }; column = 1 } ∷ []), 15, 15, (record { quant = record { 0 = 0 }; column = 0 } ∷ []))
+    ∷ ((record { quant = record { 0 = 0 }; column = 1 } ∷ record { quant = record { 0 = 0 }; column = 0 } ∷ []), 8, 1, (record { quant = record { 0 = 0 }; column = 0 } ∷ []))
+    ∷ ((record { quant = record { 0 = 0 }; column = 1 } ∷ record { quant = record { 0 = 0 }; column = 0 } ∷ []), 8, 14, (record { quant = record { 0 = 0 }; column = 1 } ∷ record { quant = record { 0 = 0 }; column = 0 } ∷ []))
+    ∷ []
+
+abbrev pub access_index_of_own_department_under_standard : List (Op × List Props × Option Props)
+access_index_of_own_department_under_standard =
+    ((op.AccessIndex 1 0 0), [], Some (by_index_of_own_department_under_standard))
+    ∷ ((op.AccessIndex 1 0 1), [], Some (record { tables = 1; cols = (3 ∷ 0 ∷ 0 ∷ 0 ∷ 0 ∷ 0 ∷ 0 ∷ 0 ∷ 0 ∷ 0 ∷ 0 ∷ 0 ∷ []); preds = 1; order = (record { quant = record { 0 = 0 }; column = 0 } ∷ []); site = record { 0 = 0 }; temp = false; path = []; card = 1; cost = 12; rescan = 12 }))
+    ∷ []
+
+abbrev pub filter_of_own_department_under_standard : List (Op × List Props × Option Props)
+filter_of_own_department_under_standard =
+    ((op.Filter 1), (by_index_of_own_department_under_standard ∷ []), Some (record { tables = 1; cols = (3 ∷ 0 ∷ 0 ∷ 0 ∷ 0 ∷ 0 ∷ 0 ∷ 0 ∷ 0 ∷ 0 ∷ 0 ∷ 0 ∷ []); preds = 1; order = (record { quant = record { 0 = 0 }; column = 0 } ∷ []); site = record { 0 = 0 }; temp = false; path = []; card = 1; cost = 2210; rescan = 2210 }))
+    ∷ []
+
+abbrev pub sort_of_own_department_under_standard : List (Op × List Props × Option Props)
+sort_of_own_department_under_standard =
+    ((op.Sort (record { quant = record { 0 = 0 }; column = 1 } ∷ [])), (e_of_own_department_under_standard ∷ []), Some (record { tables = 1; cols = (3 ∷ 0 ∷ 0 ∷ 0 ∷ 0 ∷ 0 ∷ 0 ∷ 0 ∷ 0 ∷ 0 ∷ 0 ∷ 0 ∷ []); preds = 1; order = (record { quant = record { 0 = 0 }; column = 0 } ∷ []); site = record { 0 = 0 }; temp = false; path = []; card = 1; cost = 2004; rescan = 2004 }))
+    ∷ []
+
+abbrev pub store_of_own_department_under_standard : List (Op × List Props × Option Props)
+store_of_own_department_under_standard =
+    ((op.Store (record { quant = record { 0 = 0 }; column = 1 } ∷ record { quant = record { 0 = 0 }; column = 0 } ∷ [])), (by_index_of_own_department_under_standard ∷ []), Some (stored_of_own_department_under_standard))
+    ∷ []
+
+abbrev pub probe_of_own_department_under_standard : List (Op × List Props × Option Props)
+probe_of_own_department_under_standard =
+    ((op.Probe (record { quant = record { 0 = 0 }; column = 1 } ∷ record { quant = record { 0 = 0 }; column = 0 } ∷ []) 1), (stored_of_own_department_under_standard ∷ []), Some (record { tables = 1; cols = (3 ∷ 0 ∷ 0 ∷ 0 ∷ 0 ∷ 0 ∷ 0 ∷ 0 ∷ 0 ∷ 0 ∷ 0 ∷ 0 ∷ []); preds = 1; order = (record { quant = record { 0 = 0 }; column = 0 } ∷ []); site = record { 0 = 0 }; temp = false; path = []; card = 1; cost = 3212; rescan = 2 }))
+    ∷ []
+
+abbrev pub canon_of_own_department_under_standard : List (List Col × ℕ × ℕ × List Col)
+canon_of_own_department_under_standard =
+    ((record { quant = record { 0 = 0 }; column = 1 } ∷ record { quant = record { 0 = 0 }; column = 0 } ∷ []), 1, 1, (record { quant = record { 0 = 0 }; column = 0 } ∷ []))
+    ∷ ((record { quant = record { 0 = 0 }; column = 1 } ∷ record { quant = record { 0 = 0 }; column = 0 } ∷ []), 0, 1, (record { quant = record { 0 = 0 }; column = 1 } ∷ record { quant = record { 0 = 0 }; column = 0 } ∷ []))
+    ∷ []
+
+abbrev pub join_merge_of_colleagues_under_standard : List (Op × List Props × Option Props)
+join_merge_of_colleagues_under_standard =
+    ((op.JoinMerge 1 0), (d_of_colleagues_under_standard ∷ e_of_colleagues_under_standard ∷ []), Some (pairs_of_colleagues_under_standard))
+    ∷ ((op.JoinMerge 1 0), (e_of_colleagues_under_standard ∷ d_of_colleagues_under_standard ∷ []), Some (record { tables = 3; cols = (1 ∷ 3 ∷ 0 ∷ 0 ∷ 0 ∷ 0 ∷ 0 ∷ 0 ∷ 0 ∷ 0 ∷ 0 ∷ 0 ∷ []); preds = 1; order = (record { quant = record { 0 = 0 }; column = 0 } ∷ record { quant = record { 0 = 1 }; column = 0 } ∷ []); site = record { 0 = 0 }; temp = false; path = []; card = 1000; cost = 2280; rescan = 2280 }))
+    ∷ ((op.JoinMerge 2 0), (pairs_of_colleagues_under_standard ∷ f_of_colleagues_under_standard ∷ []), Some (record { tables = 7; cols = (1 ∷ 3 ∷ 2 ∷ 0 ∷ 0 ∷ 0 ∷ 0 ∷ 0 ∷ 0 ∷ 0 ∷ 0 ∷ 0 ∷ []); preds = 3; order = (record { quant = record { 0 = 0 }; column = 0 } ∷ []); site = record { 0 = 0 }; temp = false; path = []; card = 100000; cost = 5490; rescan = 5490 }))
+    ∷ ((op.JoinMerge 2 0), (f_of_colleagues_under_standard ∷ pairs_of_colleagues_under_standard ∷ []), Some (record { tables = 7; cols = (1 ∷ 3 ∷ 2 ∷ 0 ∷ 0 ∷ 0 ∷ 0 ∷ 0 ∷ 0 ∷ 0 ∷ 0 ∷ 0 ∷ []); preds = 3; order = (record { quant = record { 0 = 0 }; column = 0 } ∷ record { quant = record { 0 = 2 }; column = 0 } ∷ []); site = record { 0 = 0 }; temp = false; path = []; card = 100000; cost = 5490; rescan = 5490 }))
+    ∷ ((op.JoinMerge 2 0), ((record pairs_of_colleagues_under_standard { order = (record { quant = record { 0 = 1 }; column = 1 } ∷ []) }) ∷ f_of_colleagues_under_standard ∷ []), None)
+    ∷ []
+
+abbrev pub satisfies_of_colleagues_under_standard : List (Props × Require × Bool)
+satisfies_of_colleagues_under_standard =
+    (pairs_of_colleagues_under_standard, record { order = (record { quant = record { 0 = 1 }; column = 1 } ∷ []); site = None; temp = false; path = [] }, true)
+    ∷ []
+
+abbrev pub canon_of_colleagues_under_standard : List (List Col × ℕ × ℕ × List Col)
+canon_of_colleagues_under_standard =
+    ((record { quant = record { 0 = 2 }; column = 1 } ∷ record { quant = record { 0 = 1 }; column = 1 } ∷ record { quant = record { 0 = 0 }; column = 0 } ∷ []), 3, 7, (record { quant = record { 0 = 0 }; column = 0 } ∷ []))
+    ∷ ((record { quant = record { 0 = 2 }; column = 1 } ∷ record { quant = record { 0 = 0 }; column = 0 } ∷ []), 2, 7, (record { quant = record { 0 = 1 }; column = 1 } ∷ record { quant = record { 0 = 0 }; column = 0 } ∷ []))
     ∷ []

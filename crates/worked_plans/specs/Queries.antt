@@ -17,6 +17,16 @@ all_employees = record {
   site = None;
 }
 
+abbrev pub chain : Query
+chain = record {
+  catalogue = catalogue.staff;
+  quants = (record { name = codes "a"; table = 0 } ∷ record { name = codes "b"; table = 0 } ∷ record { name = codes "c"; table = 0 } ∷ record { name = codes "d"; table = 0 } ∷ []);
+  select = (record { quant = record { 0 = 3 }; column = 0 } ∷ []);
+  preds = (record { left = record { quant = record { 0 = 3 }; column = 1 }; cmp = cmp.Eq; right = operand.Column (record { quant = record { 0 = 2 }; column = 1 }) } ∷ record { left = record { quant = record { 0 = 2 }; column = 1 }; cmp = cmp.Eq; right = operand.Column (record { quant = record { 0 = 1 }; column = 1 }) } ∷ record { left = record { quant = record { 0 = 1 }; column = 1 }; cmp = cmp.Eq; right = operand.Column (record { quant = record { 0 = 0 }; column = 1 }) } ∷ record { left = record { quant = record { 0 = 0 }; column = 1 }; cmp = cmp.Eq; right = operand.Column (record { quant = record { 0 = 0 }; column = 0 }) } ∷ []);
+  order = [];
+  site = None;
+}
+
 abbrev pub cities : Query
 cities = record {
   catalogue = catalogue.staff;
@@ -224,5 +234,15 @@ unshipped = record {
   select = (record { quant = record { 0 = 0 }; column = 0 } ∷ []);
   preds = [];
   order = [];
+  site = None;
+}
+
+abbrev pub words_by_both : Query
+words_by_both = record {
+  catalogue = catalogue.words;
+  quants = (record { name = codes "l"; table = 0 } ∷ record { name = codes "r"; table = 1 } ∷ []);
+  select = (record { quant = record { 0 = 0 }; column = 0 } ∷ record { quant = record { 0 = 1 }; column = 1 } ∷ []);
+  preds = (record { left = record { quant = record { 0 = 0 }; column = 0 }; cmp = cmp.Eq; right = operand.Column (record { quant = record { 0 = 1 }; column = 0 }) } ∷ []);
+  order = (record { quant = record { 0 = 0 }; column = 0 } ∷ record { quant = record { 0 = 1 }; column = 0 } ∷ []);
   site = None;
 }

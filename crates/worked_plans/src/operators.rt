@@ -1,6 +1,6 @@
 // Written by tools/worked_plans.
 // What the definitions say of the table of operators.
-ghost use Rattle.worked_plans.specs.Claims.{StepsAs, AreBetterAs, SatisfyAs, MeetAs, AreChainsAs, HasCards};
+ghost use Rattle.worked_plans.specs.Claims.{StepsAs, AreBetterAs, SatisfyAs, MeetAs, AreChainsAs, HasCards, AreCanonicalAs};
 ghost use Rattle.worked_plans.specs.Queries as query;
 ghost use Rattle.worked_plans.specs.RuleFiles as rules;
 ghost use Rattle.worked_plans.specs.Operators as row;
@@ -185,6 +185,11 @@ pub fn card_of_french_orders_under_standard()
     ensures { HasCards query.french_orders row.card_of_french_orders_under_standard }
 {}
 
+/// The rows of `canon` for `french_orders.query`, with the costs of `standard.rules`.
+pub fn canon_of_french_orders_under_standard()
+    ensures { AreCanonicalAs query.french_orders row.canon_of_french_orders_under_standard }
+{}
+
 /// The rows of `access_heap` for `shipped.query`, with the costs of `heaps.rules`.
 pub fn access_heap_of_shipped_under_heaps()
     ensures { StepsAs query.shipped rules.heaps row.access_heap_of_shipped_under_heaps }
@@ -348,4 +353,79 @@ pub fn card_of_compared_under_standard()
 /// The rows of `join_hash` for `compared.query`, with the costs of `standard.rules`.
 pub fn join_hash_of_compared_under_standard()
     ensures { StepsAs query.compared rules.standard row.join_hash_of_compared_under_standard }
+{}
+
+/// The rows of `canon` for `compared.query`, with the costs of `standard.rules`.
+pub fn canon_of_compared_under_standard()
+    ensures { AreCanonicalAs query.compared row.canon_of_compared_under_standard }
+{}
+
+/// The rows of `join_merge` for `words_by_both.query`, with the costs of `merge.rules`.
+pub fn join_merge_of_words_by_both_under_merge()
+    ensures { StepsAs query.words_by_both rules.merge row.join_merge_of_words_by_both_under_merge }
+{}
+
+/// The rows of `sort` for `words_by_both.query`, with the costs of `merge.rules`.
+pub fn sort_of_words_by_both_under_merge()
+    ensures { StepsAs query.words_by_both rules.merge row.sort_of_words_by_both_under_merge }
+{}
+
+/// The rows of `canon` for `words_by_both.query`, with the costs of `merge.rules`.
+pub fn canon_of_words_by_both_under_merge()
+    ensures { AreCanonicalAs query.words_by_both row.canon_of_words_by_both_under_merge }
+{}
+
+/// The rows of `satisfies` for `words_by_both.query`, with the costs of `merge.rules`.
+pub fn satisfies_of_words_by_both_under_merge()
+    ensures { SatisfyAs query.words_by_both row.satisfies_of_words_by_both_under_merge }
+{}
+
+/// The rows of `canon` for `chain.query`, with the costs of `standard.rules`.
+pub fn canon_of_chain_under_standard()
+    ensures { AreCanonicalAs query.chain row.canon_of_chain_under_standard }
+{}
+
+/// The rows of `access_index` for `own_department.query`, with the costs of `standard.rules`.
+pub fn access_index_of_own_department_under_standard()
+    ensures { StepsAs query.own_department rules.standard row.access_index_of_own_department_under_standard }
+{}
+
+/// The rows of `filter` for `own_department.query`, with the costs of `standard.rules`.
+pub fn filter_of_own_department_under_standard()
+    ensures { StepsAs query.own_department rules.standard row.filter_of_own_department_under_standard }
+{}
+
+/// The rows of `sort` for `own_department.query`, with the costs of `standard.rules`.
+pub fn sort_of_own_department_under_standard()
+    ensures { StepsAs query.own_department rules.standard row.sort_of_own_department_under_standard }
+{}
+
+/// The rows of `store` for `own_department.query`, with the costs of `standard.rules`.
+pub fn store_of_own_department_under_standard()
+    ensures { StepsAs query.own_department rules.standard row.store_of_own_department_under_standard }
+{}
+
+/// The rows of `probe` for `own_department.query`, with the costs of `standard.rules`.
+pub fn probe_of_own_department_under_standard()
+    ensures { StepsAs query.own_department rules.standard row.probe_of_own_department_under_standard }
+{}
+
+/// The rows of `canon` for `own_department.query`, with the costs of `standard.rules`.
+pub fn canon_of_own_department_under_standard()
+    ensures { AreCanonicalAs query.own_department row.canon_of_own_department_under_standard }
+{}
+
+/// The rows of `join_merge` for `colleagues.query`, with the costs of `standard.rules`.
+pub fn join_merge_of_colleagues_under_standard()
+    ensures { StepsAs query.colleagues rules.standard row.join_merge_of_colleagues_under_standard }
+{}
+
+/// The rows of `satisfies` for `colleagues.query`, with the costs of `standard.rules`.
+pub fn satisfies_of_colleagues_under_standard()
+    ensures { SatisfyAs query.colleagues row.satisfies_of_colleagues_under_standard }
+{}
+
+/// The rows of `canon` for `colleagues.query`, with the costs of `standard.rules`.
+pub fn canon_of_colleagues_under_standard()
+    ensures { AreCanonicalAs query.colleagues row.canon_of_colleagues_under_standard }
 {}

@@ -150,6 +150,16 @@ pub fn merged_by_index()
     ensures { HasNumbers query.cities rules.standard tree.merged_by_index 2280 2280 1000 }
 {}
 
+/// The merged rows are in the order of both columns, which are equal. Under `merge.rules`, for `words_by_both.query`.
+pub fn merged_in_order()
+    ensures { HasNumbers query.words_by_both rules.merge tree.merged_in_order 50 50 6 }
+{}
+
+/// They may be sorted once more. Under `merge.rules`, for `words_by_both.query`.
+pub fn merged_then_sorted()
+    ensures { HasNumbers query.words_by_both rules.merge tree.merged_then_sorted 74 74 6 }
+{}
+
 /// A goal of two tables without a split. Under `heaps.rules`, for `cities.query`.
 pub fn no_split()
     ensures { IsInvalidAt 2 query.cities rules.heaps tree.no_split }
