@@ -1,0 +1,2 @@
+//! STUB: the words of plan_choice.
+#![tactic(auto)]

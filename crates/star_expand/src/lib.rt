@@ -1,0 +1,28 @@
+//! STUB: the calls of star_expand.
+#![tactic(auto)]
+ghost use Rattle.std.specs.Prelude.{IfOk};
+ghost use Rattle.star_model.specs.WellFormed.{WellFormedQuery};
+ghost use Rattle.plan_choice.specs.Choosing.{IsChosen, IsFrontierList};
+
+use lolepop::Best;
+use star_check::CheckedRules;
+use star_model::lists::List;
+use star_model::plans::Props;
+use star_model::query::Query;
+use std::alloc::{AllocError, Global};
+
+/// A plan of the query of the least cost.
+pub fn best(_alloc: Global, _rules: &CheckedRules, query: &Query) -> Result<Option<Best>, AllocError>
+    requires { WellFormedQuery query.now }
+    ensures { IfOk result (IsChosen query.now _rules.now) }
+{
+    Err(AllocError)
+}
+
+/// The vectors of the frontier of the query's goal.
+pub fn frontier(_alloc: Global, _rules: &CheckedRules, query: &Query) -> Result<List<Props>, AllocError>
+    requires { WellFormedQuery query.now }
+    ensures { IfOk result (IsFrontierList query.now _rules.now) }
+{
+    Err(AllocError)
+}
