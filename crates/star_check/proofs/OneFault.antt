@@ -15,7 +15,7 @@ use Rattle.star_model.specs.declared.rules.Which.{Which}
 use Rattle.star_model.specs.declared.rules.StarDef.{StarDef}
 use Rattle.star_model.specs.declared.rules.RuleFile.{RuleFile}
 use Rattle.spelling.specs.RuleLimits.{WellFormedRules}
-use Rattle.star_check.proofs.Formulas.{same_row}
+use Rattle.star_model.proofs.Laws.{one_row}
 use Rattle.star_check.proofs.Owned.{one_place, differ_back, differ_front}
 
 -- the place of the fault's case in the order of the refusals
@@ -149,7 +149,7 @@ one_flavour rules f g p q =
     let a : row_of f ≤ row_of g = p.1 g q.0 in
     let b : row_of g ≤ row_of f = q.1 f p.0 in
     let rows : row_of f ≡ row_of g = omega (arith, a, b) in
-    same_row f g rows
+    one_row f g rows
 
 same_stage : (rules : RuleFile) → WellFormedRules rules → (f g : RuleFault) → stage f ≡ stage g → IsRefusedBy rules f → IsRefusedBy rules g → f ≡ g
 same_stage rules formed (fault.Unknown k) (fault.Unknown j) e p q = ap fault.Unknown (one_first rules (Unknown rules) k j p q)

@@ -1,7 +1,7 @@
 // Operators that are used and lack a formula.
 ghost use Rattle.std.specs.Prelude.{◌≡◌, ◌&&◌, ◌||◌, not};
 ghost use Rattle.std.specs.List.{list_any, find};
-ghost use Rattle.star_model.specs.Costs.{same_flavour, same_which};
+ghost use Rattle.star_model.specs.Costs.{flavours, same_flavour, same_which};
 ghost use Rattle.star_model.specs.Accepted.{operators_in, is_used, lacks_formula};
 ghost use Rattle.star_model.specs.declared.rules.Which.TheVariants as which;
 ghost use Rattle.star_check.specs.FileFaults.{is_of_glue, IsMissingFormula};
