@@ -79,12 +79,13 @@ module _ (q : Query) (rules : RuleFile) where
   abbrev pub CallWay : List ℕ → List RuleValue → DerivedPlan → Type 0
   CallWay star b x = (n : ℕ) × (picks : List ℕ) × BodyWay star b n picks x
 
-  -- Alternative n, of which some for-all names are bound, by the values with these numbers: values of the others, in their order,
-  -- give it over a plan of the body, if the condition holds then.
+  -- alternative n, its for-all names bound by the values with these numbers, gives it over a plan of its body, if its condition holds
+  abbrev pub BoundWay : List ℕ → ℕ → Alternative → List ℕ → List RuleValue → DerivedPlan → Type 0
+  BoundWay star n a picks c x = (i : DerivedPlan) × (meets q c a.condition ≡ true) × IsDerived q rules (Expression a.body c) i × RefersTo star n picks i x
+
+  -- some of the names are bound, by the values with these numbers: values of the others, in their order, bind the rest so that it does
   abbrev pub RangesWay : List ℕ → ℕ → Alternative → List ForAll → List ℕ → List RuleValue → DerivedPlan → Type 0
-  RangesWay star n a ranges picked c x =
-      (more : List ℕ) × (e : List RuleValue) × (i : DerivedPlan) × (bound q ranges more c ≡ Some e) × (meets q e a.condition ≡ true) × IsDerived q rules (Expression a.body e) i
-      × RefersTo star n (picked ++ more) i x
+  RangesWay star n a ranges picked c x = (more : List ℕ) × (e : List RuleValue) × (bound q ranges more c ≡ Some e) × BoundWay star n a (picked ++ more) e x
 
   -- the split of the goal gives it over a plan of its root STAR
   abbrev pub SplitWay : ℕ → ℕ → Option (ℕ × ℕ) → DerivedPlan → Type 0

@@ -4,6 +4,7 @@ mod UsedColumns
 mod NoInput
 mod DerivedLaws
 mod FitLaws
+mod FlavourLaws
 mod StepLaws
 mod ServeLaws
 pub mod Laws

@@ -1,7 +1,7 @@
 -- Derived plans: a plan with its vectors, and its derivation. What a node of a derivation makes of those below it.
 use Rattle.std.specs.Prelude.{◌≡◌, ℕ, Bool, true, List, [], ◌∷◌, Option, Some, Contains, option_and_then}
 use Rattle.std.specs.Option.{option_map}
-use Rattle.star_model.specs.Operators.{step}
+use Rattle.star_model.specs.Operators.{step, flavour_of}
 use Rattle.star_model.specs.Plans.{op_of, is_chain}
 use Rattle.star_model.specs.Requirements.{satisfies}
 use Rattle.star_model.specs.Vectors.{is_better}
@@ -30,6 +30,27 @@ vector_of e = top_vector e.tree
 abbrev pub is_better_plan : DerivedPlan → DerivedPlan → Bool
 is_better_plan e f = is_better (vector_of e) (vector_of f)
 
+-- ---- operators with a vector
+
+-- the operator gives the vector over inputs with these vectors
+pub record GivesVector (o : Op) (inputs : List Props) (v : Props) : Type 0 where
+  pub query : Query
+  pub costs : List CostEntry
+  pub given : step query costs o inputs ≡ Some v
+
+abbrev pub leaf_plan : Op → Props → DerivedPlan
+leaf_plan o v = record { tree = Leaf o v; deriv = made.Leaf (flavour_of o) }
+
+abbrev pub unary_plan : Op → Props → DerivedPlan → DerivedPlan
+unary_plan o v e = record { tree = Unary o v e.tree; deriv = deriv.Unary (flavour_of o) e.deriv }
+
+abbrev pub binary_plan : Op → Props → DerivedPlan → DerivedPlan → DerivedPlan
+binary_plan o v d e = record { tree = Binary o v d.tree e.tree; deriv = deriv.Binary (flavour_of o) d.deriv e.deriv }
+
+-- an operator of a chain of Glue: the derivation has one node for the whole chain
+abbrev pub enforced_plan : Op → Props → DerivedPlan → DerivedPlan
+enforced_plan o v e = record e { tree = Unary o v e.tree }
+
 -- ---- operators: none where they aren't applicable
 
 abbrev pub derived_leaf : Query → List CostEntry → Flavour → Op → Option DerivedPlan
@@ -42,9 +63,9 @@ abbrev pub derived_binary : Query → List CostEntry → Flavour → Op → Deri
 derived_binary q costs f o d e =
     option_map (λ v. record { tree = Binary o v d.tree e.tree; deriv = deriv.Binary f d.deriv e.deriv }) (step q costs o (vector_of d ∷ vector_of e ∷ []))
 
--- an operator of a chain of Glue: the derivation has one node for the whole chain
+-- the operator of a word of a chain of Glue
 abbrev pub enforced : Query → List CostEntry → Require → GlueOp → DerivedPlan → Option DerivedPlan
-enforced q costs r word e = option_map (λ v. record e { tree = Unary (op_of r word) v e.tree }) (step q costs (op_of r word) (vector_of e ∷ []))
+enforced q costs r word e = option_map (λ v. enforced_plan (op_of r word) v e) (step q costs (op_of r word) (vector_of e ∷ []))
 
 -- the chain over a derived plan, the first operator next to it; none where an operator isn't applicable
 abbrev pub chained : Query → List CostEntry → Require → List GlueOp → DerivedPlan → Option DerivedPlan

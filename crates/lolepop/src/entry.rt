@@ -1,21 +1,21 @@
 // Plans with their derivations, both shared.
 
-ghost use Rattle.std.specs.Prelude.{◌≡◌, IfOk, IfSome};
+ghost use Rattle.std.specs.Prelude.{◌≡◌, [], ◌∷◌, IfOk};
+ghost use Rattle.star_model.specs.Operators.{step};
 ghost use Rattle.star_model.specs.WellFormed.{WellFormedQuery};
-ghost use Rattle.lolepop.specs.PlanTrees.{Fits};
-ghost use Rattle.lolepop.specs.Derived.{derived_leaf, derived_unary, derived_binary, enforced, under_glue, under_goal, under_reference};
+ghost use Rattle.lolepop.specs.Derived.{vector_of, GivesVector, leaf_plan, unary_plan, binary_plan, enforced_plan, under_glue, under_goal, under_reference};
 
-use crate::applying;
-use crate::chain_words::glue_operator;
-use crate::plan_node::PlanNode;
+use crate::arguments::flavour_of;
+use crate::inputs::Inputs;
+use crate::plan_node::{self, PlanNode};
+use crate::steps::step_over;
 use crate::trace::Trace;
 use property_vector::{Ranked, better};
 use star_model::costs::Costs;
 use star_model::derivations::ForAllValues;
 use star_model::lists::Name;
-use star_model::plans::{Chain, GlueOp, Goal, Op, Require};
+use star_model::plans::{Chain, Goal, Op, Props};
 use star_model::query::Query;
-use star_model::rules::Flavour;
 use star_model::sets::QuantSet;
 use std::alloc::{AllocError, Global};
 use std::marker::Model;
@@ -55,7 +55,7 @@ impl Clone for Entry {
 
 impl Ranked for Entry {
     ghost use Rattle.star_model.proofs.Laws.{better_reflexive, better_transitive};
-    ghost use Rattle.lolepop.specs.Derived.{vector_of, is_better_plan};
+    ghost use Rattle.lolepop.specs.Derived.{is_better_plan};
 
     ghost outranks = { is_better_plan };
 
@@ -69,100 +69,89 @@ impl Ranked for Entry {
 }
 
 impl Entry {
-    /// The operator over nothing; none where it isn't applicable.
-    pub fn leaf(
-        alloc: Global,
-        query: &Query,
-        costs: &Costs,
-        flavour: Flavour,
-        op: Op,
-    ) -> Result<Option<Entry>, AllocError>
+    /// The vector of the operator over the entry; none where it isn't applicable. It takes no memory.
+    pub fn vector_under(&self, query: &Query, costs: &Costs, op: &Op) -> Option<Props>
         requires { WellFormedQuery query.now }
-        ensures made { IfOk result (λ made. made ≡ derived_leaf query.now costs.now flavour op) }
-        ensures fits { IfOk result (λ made. IfSome made (λ e. Fits query.now costs.now e.tree)) }
+        ensures { result ≡ step query.now costs.now op.now (vector_of self.now ∷ []) }
     {
-        let Some(node) = applying::leaf(alloc, query, costs, op)? else {
-            return Ok(None);
-        };
-        let trace = Rc::new(alloc, Trace::Leaf { flavour })?;
-        Ok(Some(Entry { node, trace }))
+        step_over(query, costs, op, &Inputs::One(self.node.props()))
     }
 
-    /// The operator over the entry; none where it isn't applicable.
-    pub fn unary(
+    /// The vector of the operator over the entry and the one at its right; none where it isn't applicable. It takes no memory.
+    pub fn vector_beside(
         &self,
-        alloc: Global,
         query: &Query,
         costs: &Costs,
-        flavour: Flavour,
-        op: Op,
-    ) -> Result<Option<Entry>, AllocError>
-        requires query { WellFormedQuery query.now }
-        requires input { Fits query.now costs.now self.now.tree }
-        ensures made { IfOk result (λ made. made ≡ derived_unary query.now costs.now flavour op self.now) }
-        ensures fits { IfOk result (λ made. IfSome made (λ e. Fits query.now costs.now e.tree)) }
-    {
-        let Some(node) = applying::unary(alloc, query, costs, op, &self.node)? else {
-            return Ok(None);
-        };
-        let input = self.trace.clone()?;
-        let trace = Rc::new(alloc, Trace::Unary { flavour, input })?;
-        Ok(Some(Entry { node, trace }))
-    }
-
-    /// The operator over the entry and the one at its right; none where it isn't applicable.
-    pub fn binary(
-        &self,
-        alloc: Global,
-        query: &Query,
-        costs: &Costs,
-        flavour: Flavour,
-        op: Op,
+        op: &Op,
         right: &Entry,
-    ) -> Result<Option<Entry>, AllocError>
-        requires query { WellFormedQuery query.now }
-        requires left { Fits query.now costs.now self.now.tree }
-        requires right { Fits query.now costs.now right.now.tree }
-        ensures made { IfOk result (λ made. made ≡ derived_binary query.now costs.now flavour op self.now right.now) }
-        ensures fits { IfOk result (λ made. IfSome made (λ e. Fits query.now costs.now e.tree)) }
+    ) -> Option<Props>
+        requires { WellFormedQuery query.now }
+        ensures { result ≡ step query.now costs.now op.now (vector_of self.now ∷ vector_of right.now ∷ []) }
     {
-        let Some(node) = applying::binary(alloc, query, costs, op, &self.node, &right.node)? else {
-            return Ok(None);
-        };
-        let left = self.trace.clone()?;
-        let right = right.trace.clone()?;
-        let trace = Rc::new(
-            alloc,
-            Trace::Binary {
-                flavour,
-                left,
-                right,
-            },
-        )?;
-        Ok(Some(Entry { node, trace }))
+        let inputs = Inputs::Two(self.node.props(), right.node.props());
+        step_over(query, costs, op, &inputs)
     }
 
-    /// The operator of a word of a chain of Glue over the entry; none where it isn't applicable. The derivation stays: the whole chain
-    /// is one node, which `glued` puts on it.
-    pub fn enforced(
+    /// The operator over nothing, with its vector.
+    pub fn at_leaf(alloc: Global, op: Op, props: Props) -> Result<Entry, AllocError>
+        requires { GivesVector op [] props }
+        ensures { IfOk result (λ e. e ≡ leaf_plan op props) }
+    {
+        let flavour = flavour_of(&op);
+        Ok(Entry {
+            node: Rc::new(alloc, plan_node::leaf(op, props))?,
+            trace: Rc::new(alloc, Trace::Leaf { flavour })?,
+        })
+    }
+
+    /// The operator over the entry, with its vector.
+    pub fn under(&self, alloc: Global, op: Op, props: Props) -> Result<Entry, AllocError>
+        requires { GivesVector op (vector_of self.now ∷ []) props }
+        ensures { IfOk result (λ e. e ≡ unary_plan op props self.now) }
+    {
+        let flavour = flavour_of(&op);
+        let input = self.trace.clone()?;
+        let node = plan_node::unary(op, props, self.node.clone()?);
+        Ok(Entry {
+            node: Rc::new(alloc, node)?,
+            trace: Rc::new(alloc, Trace::Unary { flavour, input })?,
+        })
+    }
+
+    /// The operator over the entry and the one at its right, with its vector.
+    pub fn beside(
         &self,
         alloc: Global,
-        query: &Query,
-        costs: &Costs,
-        require: &Require,
-        word: GlueOp,
-    ) -> Result<Option<Entry>, AllocError>
-        requires query { WellFormedQuery query.now }
-        requires input { Fits query.now costs.now self.now.tree }
-        ensures made { IfOk result (λ made. made ≡ enforced query.now costs.now require.now word self.now) }
-        ensures fits { IfOk result (λ made. IfSome made (λ e. Fits query.now costs.now e.tree)) }
+        op: Op,
+        props: Props,
+        right: &Entry,
+    ) -> Result<Entry, AllocError>
+        requires { GivesVector op (vector_of self.now ∷ vector_of right.now ∷ []) props }
+        ensures { IfOk result (λ e. e ≡ binary_plan op props self.now right.now) }
     {
-        let op = glue_operator(require, word);
-        let Some(node) = applying::unary(alloc, query, costs, op, &self.node)? else {
-            return Ok(None);
+        let trace = Trace::Binary {
+            flavour: flavour_of(&op),
+            left: self.trace.clone()?,
+            right: right.trace.clone()?,
         };
+        let node = plan_node::binary(op, props, self.node.clone()?, right.node.clone()?);
+        Ok(Entry {
+            node: Rc::new(alloc, node)?,
+            trace: Rc::new(alloc, trace)?,
+        })
+    }
+
+    /// An operator of Glue over the entry, with its vector. The derivation stays: a whole chain is one node, which `glued` puts on it.
+    pub fn enforced(&self, alloc: Global, op: Op, props: Props) -> Result<Entry, AllocError>
+        requires { GivesVector op (vector_of self.now ∷ []) props }
+        ensures { IfOk result (λ e. e ≡ enforced_plan op props self.now) }
+    {
         let trace = self.trace.clone()?;
-        Ok(Some(Entry { node, trace }))
+        let node = plan_node::unary(op, props, self.node.clone()?);
+        Ok(Entry {
+            node: Rc::new(alloc, node)?,
+            trace,
+        })
     }
 
     /// The plan, derived by the chain over the entry's derivation. Its operators are in the plan already.

@@ -1,7 +1,8 @@
 // The laws of the definitions, each the clause of a function that does nothing.
 
 ghost use Rattle.std.specs.Prelude.{◌≡◌, true, List as Seq, [], ◌∷◌, Some, ◌↔◌};
-ghost use Rattle.star_model.specs.Operators.{step};
+ghost use Rattle.star_model.specs.Expected.{operator_of};
+ghost use Rattle.star_model.specs.Operators.{step, flavour_of};
 ghost use Rattle.star_model.specs.Plans.{vector, op_of};
 ghost use Rattle.star_model.specs.Vectors.{is_better};
 ghost use Rattle.star_model.specs.Requirements.{satisfies};
@@ -16,6 +17,7 @@ ghost use Rattle.star_model.specs.declared.plans.Props.{Props};
 ghost use Rattle.star_model.specs.declared.plans.Require.{Require};
 ghost use Rattle.star_model.specs.declared.query.Query.{Query};
 ghost use Rattle.star_model.specs.declared.rules.Flavour.{Flavour};
+ghost use Rattle.star_model.specs.declared.values.RuleValue.{RuleValue};
 ghost use Rattle.lolepop.specs.PlanTrees.{PlanTree, Leaf, Unary, Binary, top_vector, plan_under, Fits};
 ghost use Rattle.lolepop.specs.Derived.{DerivedPlan, vector_of, derived_leaf, derived_unary, derived_binary, enforced};
 
@@ -25,6 +27,20 @@ pub fn each_plan_has_one_tree()
     ensures some { (q : Query) (costs : Seq CostEntry) (p : Plan) (v : Props) → vector q costs p ≡ Some v
         → (t : PlanTree) × Fits q costs t × (plan_under t ≡ p) × (top_vector t ≡ v) }
     ensures one { (q : Query) (costs : Seq CostEntry) (s t : PlanTree) → Fits q costs s → Fits q costs t → plan_under s ≡ plan_under t → s ≡ t }
+{}
+
+/// An applicable operator over trees that fit makes one that fits.
+pub fn operators_fit_over_what_fits()
+    ensures leaf { (q : Query) (costs : Seq CostEntry) (o : Op) (v : Props) → step q costs o [] ≡ Some v → Fits q costs (Leaf o v) }
+    ensures unary { (q : Query) (costs : Seq CostEntry) (o : Op) (v : Props) (t : PlanTree) → Fits q costs t → step q costs o (top_vector t ∷ []) ≡ Some v
+        → Fits q costs (Unary o v t) }
+    ensures binary { (q : Query) (costs : Seq CostEntry) (o : Op) (v : Props) (s t : PlanTree) → Fits q costs s → Fits q costs t
+        → step q costs o (top_vector s ∷ top_vector t ∷ []) ≡ Some v → Fits q costs (Binary o v s t) }
+{}
+
+/// An operator that is made of values has the flavour that it is made for.
+pub fn operators_have_their_flavour()
+    ensures { (f : Flavour) (values : Seq RuleValue) → flavour_of (operator_of f values) ≡ f }
 {}
 
 /// What an operator gives over derived plans is the node over these with its vector, and none where it has no vector.

@@ -1,1 +1,3 @@
-pub mod Choosing
+pub mod Choice
+pub mod LineOrder
+pub mod FrontierLists

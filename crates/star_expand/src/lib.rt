@@ -1,8 +1,12 @@
 //! STUB: the calls of star_expand.
 #![tactic(auto)]
-ghost use Rattle.std.specs.Prelude.{IfOk};
+ghost use Rattle.std.specs.Prelude.{◌≡◌, [], IfOk};
+ghost use Rattle.star_model.specs.Derivations.{IsRoot};
 ghost use Rattle.star_model.specs.WellFormed.{WellFormedQuery};
-ghost use Rattle.plan_choice.specs.Choosing.{IsChosen, IsFrontierList};
+ghost use Rattle.star_model.specs.declared.derivations.Deriv.{Deriv};
+ghost use Rattle.star_model.specs.declared.plans.Props.{Props};
+ghost use Rattle.plan_choice.specs.Choice.{IsChosen};
+ghost use Rattle.plan_choice.specs.FrontierLists.{IsFrontierList};
 
 use lolepop::Best;
 use star_check::CheckedRules;
@@ -22,7 +26,8 @@ pub fn best(_alloc: Global, _rules: &CheckedRules, query: &Query) -> Result<Opti
 /// The vectors of the frontier of the query's goal.
 pub fn frontier(_alloc: Global, _rules: &CheckedRules, query: &Query) -> Result<List<Props>, AllocError>
     requires { WellFormedQuery query.now }
-    ensures { IfOk result (IsFrontierList query.now _rules.now) }
+    ensures vectors { IfOk result (IsFrontierList query.now _rules.now) }
+    ensures none { IfOk result (λ list. list ≡ [] → (d : Deriv) (v : Props) → IsRoot query.now _rules.now d v → ⊥) }
 {
     Err(AllocError)
 }

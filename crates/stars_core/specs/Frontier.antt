@@ -9,7 +9,7 @@ use Rattle.star_model.specs.declared.columns.Site.{Site}
 use Rattle.star_model.specs.declared.rules.RuleFile.{RuleFile}
 use Rattle.star_model.specs.declared.query.Query.{Query as QueryTree}
 use Rattle.star_model.specs.declared.plans.Props.{Props}
-use Rattle.plan_choice.specs.Choosing.{IsFrontierList}
+use Rattle.plan_choice.specs.FrontierLists.{IsFrontierList}
 use Rattle.stars_core.specs.declared.status.Found.{Found}
 use Rattle.stars_core.specs.declared.status.Found.TheVariants.{Planned, Unplanned}
 use Rattle.stars_core.specs.Plan.{HasNoPlan, no_plan}
