@@ -1,2 +1,0 @@
-//! STUB: the words of plan_choice.
-#![tactic(auto)]
