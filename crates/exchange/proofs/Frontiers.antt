@@ -66,7 +66,8 @@ module _ (q : Query) (rules : RuleFile) where
 
   -- ---- the query's plans
 
-  root_vector : (d : Deriv) (v : Props) → IsRoot q rules d v ↔ HasVector q rules d ForQuery v
+  -- a root derivation is one that is valid for the query
+  pub root_vector : (d : Deriv) (v : Props) → IsRoot q rules d v ↔ HasVector q rules d ForQuery v
   root_vector d v = (
     (λ h. (judges_vector q rules d ForQuery 1 v).0 ((judges_root q rules d v).1 h)),
     (λ h. (judges_root q rules d v).0 ((judges_vector q rules d ForQuery 1 v).1 h)),

@@ -8,11 +8,14 @@ ghost use Rattle.star_model.specs.Derivations.{HasVector, IsRoot, IsLeast, OnFro
 ghost use Rattle.star_model.specs.Exchange.{CostsPass, HasCard};
 ghost use Rattle.star_model.specs.Expected.{Expected, ForQuery, ForGoal, Call, Expression, glue_of, may_split, root_call, bound, meets, operator_of, values_of};
 ghost use Rattle.star_model.specs.Meaning.{numbers_of, member_at};
+ghost use Rattle.star_model.specs.Plans.{chain_vector};
 ghost use Rattle.star_model.specs.Sets.{size, splits};
 ghost use Rattle.star_model.specs.Stars.{alternative_of};
 ghost use Rattle.star_model.specs.PlanExprCases as expr;
 ghost use Rattle.star_model.specs.declared.rules.PlanExpr.TheVariants as made;
 ghost use Rattle.star_model.specs.declared.derivations.Deriv.{Deriv};
+ghost use Rattle.star_model.specs.declared.costs.CostEntry.{CostEntry};
+ghost use Rattle.star_model.specs.declared.plans.GlueOp.{GlueOp};
 ghost use Rattle.star_model.specs.declared.plans.Props.{Props};
 ghost use Rattle.star_model.specs.declared.plans.Require.{Require};
 ghost use Rattle.star_model.specs.declared.query.Query.{Query};
@@ -24,7 +27,7 @@ ghost use Rattle.star_model.specs.declared.rules.RuleFile.{RuleFile};
 ghost use Rattle.star_model.specs.declared.rules.ValueExpr.{ValueExpr};
 ghost use Rattle.star_model.specs.declared.values.RuleValue.{RuleValue};
 ghost use Rattle.dominance_prune.specs.Gathering.{Gathers, From};
-ghost use Rattle.lolepop.specs.Derived.{DerivedPlan, vector_of, is_better_plan, GluesTo, AllFit};
+ghost use Rattle.lolepop.specs.Derived.{DerivedPlan, vector_of, is_better_plan, chained, GluesTo, AllFit};
 ghost use Rattle.exchange.specs.Asking.{AsksFrom, AsksBelow};
 ghost use Rattle.exchange.specs.Places.{IsDerived, IsBestOf, LeafWay, UnaryWay, BinaryWay, GlueWay, CallWay, BodyWay, BoundWay, RangesWay, SplitWay, GoalWay, OverOne, OverTwo, RefersTo, ReachesTo};
 
@@ -136,15 +139,24 @@ pub fn goals_exchange()
 {}
 
 /// The vectors in a set of what is best for a goal are those of the goal's frontier, each once.
-pub fn best_sets_have_the_frontier()
+pub fn goal_sets_have_the_frontier()
     ensures frontier { (q : Query) (rules : RuleFile) (s j : ℕ) (plans : Seq DerivedPlan) → IsBestOf q rules (ForGoal s j) plans → (v : Props)
         → ((m : DerivedPlan) × Contains plans m × (vector_of m ≡ v)) ↔ OnFrontier q rules s j v }
     ensures once { (q : Query) (rules : RuleFile) (x : Expected) (plans : Seq DerivedPlan) → IsBestOf q rules x plans → AllPairs (λ e f. vector_of e ≡ vector_of f → ⊥) plans }
 {}
 
-/// Of a set of what is best for the query, a member that costs no more than any other is a plan of least cost; where the set is empty,
-/// the query has no plan.
+/// A chain of Glue over a derived plan gives one whose vector is that of the chain over the plan's vector, and none where that has none.
+pub fn chains_give_their_vectors()
+    ensures vector { (q : Query) (costs : Seq CostEntry) (r : Require) (chain : Seq GlueOp) (e m : DerivedPlan) → chained q costs r chain e ≡ Some m
+        → chain_vector q costs r chain (vector_of e) ≡ Some (vector_of m) }
+    ensures some { (q : Query) (costs : Seq CostEntry) (r : Require) (chain : Seq GlueOp) (e : DerivedPlan) (w : Props) → chain_vector q costs r chain (vector_of e) ≡ Some w
+        → (m : DerivedPlan) × (chained q costs r chain e ≡ Some m) × (vector_of m ≡ w) }
+{}
+
+/// A root derivation is one that is valid for the query. Of a set of what is best there, a member that costs no more than any other is
+/// a plan of least cost; if the set is empty, there is no plan.
 pub fn the_cheapest_costs_least()
+    ensures root { (q : Query) (rules : RuleFile) (d : Deriv) (v : Props) → IsRoot q rules d v ↔ HasVector q rules d ForQuery v }
     ensures least { (q : Query) (rules : RuleFile) (plans : Seq DerivedPlan) → IsBestOf q rules ForQuery plans → (m : DerivedPlan) → Contains plans m
         → ((e : DerivedPlan) → Contains plans e → (vector_of m).cost ≤ (vector_of e).cost) → IsLeast q rules m.deriv (vector_of m) }
     ensures none { (q : Query) (rules : RuleFile) (plans : Seq DerivedPlan) → IsBestOf q rules ForQuery plans → plans ≡ [] → (d : Deriv) (v : Props) → IsRoot q rules d v → ⊥ }

@@ -1,0 +1,4 @@
+mod ListedChains
+mod ChainOffers
+mod GlueLaws
+pub mod Laws

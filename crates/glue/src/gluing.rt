@@ -5,6 +5,8 @@ ghost use Rattle.star_model.specs.WellFormed.{WellFormedQuery};
 ghost use Rattle.dominance_prune.specs.Gathering.{From, IsFrontier};
 ghost use Rattle.lolepop.specs.Derived.{is_better_plan, GluesTo, AllFit};
 
+use crate::chains::CHAINS;
+use crate::offering::add_chains;
 use dominance_prune::PlanSet;
 use lolepop::Entry;
 use star_model::costs::Costs;
@@ -25,5 +27,8 @@ pub fn glue(
     ensures glued { IfOk result (IsFrontier is_better_plan (From plans.now (GluesTo query.now costs.now require.now))) }
     ensures fits { IfOk result (AllFit query.now costs.now) }
 {
-    Err(AllocError)
+    let mut out = PlanSet::new(alloc);
+    add_chains(alloc, query, costs, require, &CHAINS, plans, &mut out)?;
+    out.apart();
+    Ok(out)
 }

@@ -64,17 +64,24 @@ impl Ranked for Entry {
     ghost transitive = { λ d e f. better_transitive (vector_of d) (vector_of e) (vector_of f) };
 
     fn covers(&self, other: &Entry) -> bool {
-        better(self.node.props(), other.node.props())
+        better(self.props(), other.props())
     }
 }
 
 impl Entry {
+    /// The vector of the plan.
+    pub fn props(&self) -> &Props
+        ensures { result.now ≡ vector_of self.now }
+    {
+        self.node.props()
+    }
+
     /// The vector of the operator over the entry; none where it isn't applicable. It takes no memory.
     pub fn vector_under(&self, query: &Query, costs: &Costs, op: &Op) -> Option<Props>
         requires { WellFormedQuery query.now }
         ensures { result ≡ step query.now costs.now op.now (vector_of self.now ∷ []) }
     {
-        step_over(query, costs, op, &Inputs::One(self.node.props()))
+        step_over(query, costs, op, &Inputs::One(self.props()))
     }
 
     /// The vector of the operator over the entry and the one at its right; none where it isn't applicable. It takes no memory.
@@ -88,7 +95,7 @@ impl Entry {
         requires { WellFormedQuery query.now }
         ensures { result ≡ step query.now costs.now op.now (vector_of self.now ∷ vector_of right.now ∷ []) }
     {
-        let inputs = Inputs::Two(self.node.props(), right.node.props());
+        let inputs = Inputs::Two(self.props(), right.props());
         step_over(query, costs, op, &inputs)
     }
 

@@ -1,9 +1,10 @@
-// What a reference makes of each member of a set.
+// What a reference makes of each member of a set. Its plan has the member's vector.
 
 ghost use Rattle.std.specs.Prelude.{◌≡◌, OnOk};
 ghost use Rattle.dominance_prune.specs.Gathering.{Gathers, From};
 ghost use Rattle.lolepop.specs.Derived.{is_better_plan, under_reference};
 
+use crate::coverage::is_covered;
 use dominance_prune::PlanSet;
 use lolepop::Entry;
 use star_model::derivations::ForAllValues;
@@ -22,5 +23,26 @@ pub fn add_references(
 ) -> Result<(), AllocError>
     ensures { OnOk result (Gathers is_better_plan out.old out.new (From plans.now (λ i x. x ≡ under_reference star.now number picked.now i))) }
 {
-    Err(AllocError)
+    for plan in plans.iter() {
+        offer_reference(alloc, star, number, picked, plan, out)?;
+    }
+    Ok(())
+}
+
+fn offer_reference(
+    alloc: Global,
+    star: &Name,
+    number: u32,
+    picked: &ForAllValues,
+    plan: &Entry,
+    out: &mut PlanSet<Entry>,
+) -> Result<(), AllocError>
+    ensures { OnOk result (Gathers is_better_plan out.old out.new (λ x. x ≡ under_reference star.now number picked.now plan.now)) }
+{
+    if is_covered(out, plan.props()) {
+        return Ok(());
+    }
+    let entry = plan.referred(alloc, star.copy(alloc)?, number, picked.copied())?;
+    out.offer(entry)?;
+    Ok(())
 }

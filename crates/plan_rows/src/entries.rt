@@ -1,20 +1,18 @@
 // A plan that is made together with its derivation.
-ghost use Rattle.lolepop.specs.PlanTrees.{Fits};
+ghost use Rattle.std.specs.Prelude.{◌≡◌, ◌<◌, IfOk};
 ghost use Rattle.star_model.specs.WellFormed.{WellFormedQuery};
-ghost use Rattle.std.specs.Prelude.{◌≡◌, ◌<◌, IfOk, IfSome};
 
 use crate::formulas::FORMULAS;
 use crate::nodes::{CUSTOMERS, ORDERS};
 use crate::running::{Asked, differing_rows};
 use derivation_print::print_derivation;
-use lolepop::Entry;
+use lolepop::{Entry, glue_operator, step};
 use star_model::columns::{Col, ColList, Quant, Site};
 use star_model::costs::Costs;
 use star_model::derivations::ForAllValues;
 use star_model::lists::Name;
 use star_model::plans::{Chain, GlueOp, Goal, Op, Require};
 use star_model::query::Query;
-use star_model::rules::Flavour;
 use star_model::sets::{PredSet, QuantSet};
 use std::alloc::{AllocError, Global};
 use std::test::Fail;
@@ -78,16 +76,18 @@ fn enforced(
     require: &Require,
     words: &[GlueOp],
 ) -> Result<Option<Entry>, AllocError>
-    requires query { WellFormedQuery query.now }
-    requires input { Fits query.now costs.now entry.tree }
-    ensures { IfOk result (λ made. IfSome made (λ e. Fits query.now costs.now e.tree)) }
+    requires { WellFormedQuery query.now }
 {
     match words {
         [] => Ok(Some(entry)),
-        [word, more @ ..] => match entry.enforced(alloc, query, costs, require, *word)? {
-            Some(next) => enforced(alloc, query, costs, next, require, more),
-            None => Ok(None),
-        },
+        [word, more @ ..] => {
+            let op = glue_operator(require, *word);
+            let Some(props) = entry.vector_under(query, costs, &op) else {
+                return Ok(None);
+            };
+            let next = entry.enforced(alloc, op, props)?;
+            enforced(alloc, query, costs, next, require, more)
+        }
     }
 }
 
@@ -102,7 +102,6 @@ fn heap(
 ) -> Result<Option<Entry>, AllocError>
     requires quant { quant < 32 }
     requires query { WellFormedQuery query.now }
-    ensures { IfOk result (λ made. IfSome made (λ e. Fits query.now costs.now e.tree)) }
 {
     let tables = QuantSet::single(quant);
     let preds = PredSet::empty();
@@ -110,9 +109,10 @@ fn heap(
         over: tables,
         preds,
     };
-    let Some(access) = Entry::leaf(alloc, query, costs, Flavour::AccessHeap, op)? else {
+    let Some(props) = step(query, costs, &op, &[]) else {
         return Ok(None);
     };
+    let access = Entry::at_leaf(alloc, op, props)?;
     let star = Name::from_slice(alloc, b"AccessRoot")?;
     let goal = Goal {
         tables,
@@ -129,7 +129,6 @@ fn heap(
 // The join of the nations with the customers that are probed for each.
 fn join(alloc: Global, query: &Query, costs: &Costs) -> Result<Option<Entry>, AllocError>
     requires { WellFormedQuery query.now }
-    ensures { IfOk result (λ made. IfSome made (λ e. Fits query.now costs.now e.tree)) }
 {
     let to_branch = required(BRANCH, ColList::new());
     let Some(outer) = heap(alloc, query, costs, 0, &to_branch, &[GlueOp::Ship])? else {
@@ -144,13 +143,17 @@ fn join(alloc: Global, query: &Query, costs: &Costs) -> Result<Option<Entry>, Al
         cols: key(),
         preds: PredSet::single(0),
     };
-    let Some(probe) = inner.unary(alloc, query, costs, Flavour::Probe, op)? else {
+    let Some(props) = inner.vector_under(query, costs, &op) else {
         return Ok(None);
     };
+    let probe = inner.under(alloc, op, props)?;
     let op = Op::JoinNl {
         preds: PredSet::empty(),
     };
-    outer.binary(alloc, query, costs, Flavour::JoinNl, op, &probe)
+    let Some(props) = outer.vector_beside(query, costs, &op, &probe) else {
+        return Ok(None);
+    };
+    Ok(Some(outer.beside(alloc, op, props, &probe)?))
 }
 
 // The join at the branch, which is the second site, by the third alternatives.

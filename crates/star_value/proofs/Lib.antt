@@ -1,4 +1,5 @@
 pub mod Passing
+pub mod Mapped
 pub mod Members
 pub mod Gathering
 pub mod RangeLaws

@@ -47,3 +47,7 @@ members_from q o k = map (member_at o) (passing (passes q o) k (end_of o))
 pub record NumberFrom (test : ℕ → Bool) (n end k : ℕ) : Type 0 where
   pub same : passing test n end ≡ passing test k end
   pub passes : k < end → test k ≡ true
+
+-- the same, each with its number
+abbrev pub numbered_from : Query → Over → ℕ → List (ℕ × RuleValue)
+numbered_from q o k = map (λ n. (n, member_at o n)) (passing (passes q o) k (end_of o))

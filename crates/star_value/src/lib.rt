@@ -1,9 +1,11 @@
 //! What the values, conditions and ranges of the rule language mean for a query, under bindings.
 #![tactic(auto)]
 
+mod arguments;
 mod conditions;
 mod copies;
 mod env;
+mod numbers;
 mod predicates;
 mod ranges;
 mod readings;
@@ -11,7 +13,10 @@ mod sets;
 mod streams;
 mod values;
 
+pub use arguments::{operator, preds, stream};
 pub use conditions::holds;
 pub use env::Env;
+pub use numbers::{NumberedIter, numbered};
 pub use ranges::{RangeIter, range};
+pub use streams::tables_of;
 pub use values::value;

@@ -1,9 +1,9 @@
 // Ranges of for-all clauses.
 
-ghost use Rattle.std.specs.Prelude.{◌≡◌, ◌<◌};
-ghost use Rattle.star_model.specs.Meaning.{members_of};
+ghost use Rattle.std.specs.Prelude.{◌≡◌, ◌<◌, map};
+ghost use Rattle.star_model.specs.Meaning.{members_of, numbers_of, member_at as member_of};
 ghost use Rattle.star_model.specs.WellFormed.{WellFormedQuery};
-ghost use Rattle.star_value.specs.RangeNumbers.{is_on_table_of, passes, end_of, member_at, members_from, NumberFrom};
+ghost use Rattle.star_value.specs.RangeNumbers.{is_on_table_of, passes, end_of, member_at, members_from, numbered_from, NumberFrom};
 
 use crate::env::Env;
 use crate::readings::{preds_of, quants_of};
@@ -19,7 +19,7 @@ use std::marker::Model;
 
 // What a range goes over, with what its parts stand for.
 #[derive(Drop)]
-enum Over {
+pub(crate) enum Over {
     // The indexes on the table of a quantifier, if there is one, out of so many indexes.
     Indexes { quant: Option<u8>, count: u8 },
     // So many sites.
@@ -30,7 +30,7 @@ enum Over {
 
 impl Over {
     // The number before which all members' numbers are.
-    fn end(&self) -> u8
+    pub(crate) fn end(&self) -> u8
         ensures { result ≡ end_of self.now }
     {
         match self {
@@ -41,7 +41,7 @@ impl Over {
         }
     }
 
-    fn passes(&self, query: &Query, number: u8) -> bool
+    pub(crate) fn passes(&self, query: &Query, number: u8) -> bool
         ensures { result ≡ passes query.now self.now number }
     {
         match self {
@@ -52,7 +52,7 @@ impl Over {
         }
     }
 
-    fn member(&self, number: u8) -> RuleValue
+    pub(crate) fn member(&self, number: u8) -> RuleValue
         requires { number < end_of self.now }
         ensures { result ≡ member_at self.now number }
     {
@@ -82,7 +82,7 @@ fn is_on_table_of(query: &Query, quant: Option<u8>, index: u8) -> bool
 
 // The first number from this one on that is a member's, or the end where there is none.
 #[tactic(auto, using(crate::proofs::Passing::passing_rules))]
-fn next_number(query: &Query, over: &Over, from: u8) -> u8
+pub(crate) fn next_number(query: &Query, over: &Over, from: u8) -> u8
     ensures { NumberFrom (passes query.now over.now) from (end_of over.now) result }
 {
     for number in from..over.end() {
@@ -135,9 +135,10 @@ impl<'q> Iterator for RangeIter<'q> {
 }
 
 #[tactic(auto, using(crate::proofs::RangeLaws::over_rules))]
-fn over_of(range: &Range, env: &Env, query: &Query) -> Over
+pub(crate) fn over_of(range: &Range, env: &Env, query: &Query) -> Over
     requires { WellFormedQuery query.now }
-    ensures { members_from query.now result 0 ≡ members_of query.now env.now range.now }
+    ensures members { members_from query.now result 0 ≡ members_of query.now env.now range.now }
+    ensures numbered { numbered_from query.now result 0 ≡ map (λ n. (n, member_of range.now n)) (numbers_of query.now env.now range.now) }
 {
     match range {
         Range::Indexes(t) => Over::Indexes {

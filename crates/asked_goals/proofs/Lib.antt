@@ -1,0 +1,5 @@
+mod Parts
+mod Alternatives
+mod Turns
+mod GoalLaws
+pub mod Laws

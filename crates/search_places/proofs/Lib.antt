@@ -1,0 +1,5 @@
+mod Finding
+mod Down
+mod Within
+mod Sound
+pub mod Laws

@@ -1,0 +1,3 @@
+pub mod Memos
+pub mod Roots
+pub mod Searching

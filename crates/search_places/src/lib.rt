@@ -1,0 +1,13 @@
+//! The places of a rule file to which a search for a goal's plans comes, and the bindings that it has there.
+#![tactic(auto)]
+
+mod bindings;
+mod glued;
+mod roots;
+mod search;
+pub mod theorems;
+
+pub use bindings::{meets, values, with_number, with_value};
+pub use glued::glued_goal;
+pub use roots::{root_name, root_values, star_called};
+pub use search::{Part, Search};

@@ -1,0 +1,104 @@
+-- How a memo grows, and what stays so while it does.
+use Rattle.std.proofs.Common.{◌≡◌, ℕ, ◌+◌, ◌<◌, ◌≤◌, Bool, true, false, nat_eq, ◌⊎◌, inl, inr, List, [], ◌∷◌, ◌++◌, Option, Some, None, IsSome, refl, ap, sym, ◌∙◌, subst, arith, length, length-append, append_assoc, append-nil}
+use Rattle.std.specs.Prelude.{Contains}
+use Rattle.std.proofs.lemmas.List.Elements.{Contains-append_cases, Contains-push_cases}
+use Rattle.star_model.specs.AskedGoals.{Asks}
+use Rattle.star_model.specs.Expected.{ForGoal}
+use Rattle.star_model.specs.declared.plans.Goal.{Goal}
+use Rattle.star_model.specs.declared.query.Query.{Query}
+use Rattle.star_model.specs.declared.rules.RuleFile.{RuleFile}
+use Rattle.lolepop.specs.Derived.{DerivedPlan}
+use Rattle.table_set_memo.specs.Memos.{GoalSet, plans_at, IsHeld}
+use Rattle.table_set_memo.proofs.Laws.{plans_at-push_old, plans_at-push_new, plans_at-push_cases}
+use Rattle.exchange.specs.Places.{IsBestOf}
+use Rattle.search_places.specs.Memos.{HoldsFrontiers, HoldsAsked, IsClosed}
+use Rattle.star_expand.specs.Expanding.{AskedFrom, Grows}
+
+nothing_in : {X : Type 0} (x : X) → Contains [] x → ⊥
+nothing_in x h = absurd (omega (arith, h.1))
+
+module _ (q : Query) (rules : RuleFile) where
+  -- ---- growing
+
+  pub Grows-none : (g : Goal) (memo : List GoalSet) → Grows q rules g memo memo
+  Grows-none g memo = record { added = []; behind = sym (append-nil memo); asked = λ s h. absurd (nothing_in s h) }
+
+  -- twice
+  pub Grows-then : (g : Goal) (a b c : List GoalSet) → Grows q rules g a b → Grows q rules g b c → Grows q rules g a c
+  Grows-then g a b c first second = record {
+    added = first.added ++ second.added;
+    behind = second.behind ∙ ap (λ m. m ++ second.added) first.behind ∙ append_assoc a first.added second.added;
+    asked = λ s h. elim (Contains-append_cases first.added second.added s h) [ inl early ↦ first.asked s early | inr late ↦ second.asked s late ];
+  }
+
+  -- a goal for which this one asks was expanded
+  pub Grows-through : (g h : Goal) (a b : List GoalSet) → Asks q rules g.tables g.pushed h.tables h.pushed → Grows q rules h a b → Grows q rules g a b
+  Grows-through g h a b asks grows = record {
+    added = grows.added;
+    behind = grows.behind;
+    asked = λ s among. AskedFrom.through g.tables g.pushed h.tables h.pushed s.0.tables s.0.pushed asks (grows.asked s among);
+  }
+
+  -- the goal itself was put
+  pub Grows-put : (g : Goal) (plans : List DerivedPlan) (a b : List GoalSet) → b ≡ a ++ (g, plans) ∷ [] → Grows q rules g a b
+  Grows-put g plans a b put = record { added = (g, plans) ∷ []; behind = put; asked = λ s among. only s (Contains-push_cases [] (g, plans) s among) }
+    where
+      only : (s : GoalSet) → Contains [] s ⊎ ((g, plans) ≡ s) → AskedFrom q rules g.tables g.pushed s.0.tables s.0.pushed
+      only s (inl none) = absurd (nothing_in s none)
+      only s (inr same) = subst (λ (u : GoalSet). AskedFrom q rules g.tables g.pushed u.0.tables u.0.pushed) same (AskedFrom.itself g.tables g.pushed)
+
+  -- ---- what stays
+
+  some_plans : (memo : List GoalSet) (h : Goal) → IsHeld memo h → (plans : List DerivedPlan) × (plans_at memo h ≡ Some plans)
+  some_plans memo h held = of (plans_at memo h) refl held
+    where
+      of : (o : Option (List DerivedPlan)) → plans_at memo h ≡ o → IsSome o → (plans : List DerivedPlan) × (plans_at memo h ≡ Some plans)
+      of None is held = absurd held
+      of (Some plans) is held = (plans, is)
+
+  held_by : (memo : List GoalSet) (h : Goal) (plans : List DerivedPlan) → plans_at memo h ≡ Some plans → IsHeld memo h
+  held_by memo h plans is = subst (λ (o : Option (List DerivedPlan)). IsSome o) (sym is) tt
+
+  pub held_grown : (g h : Goal) (old new : List GoalSet) → Grows q rules g old new → IsHeld old h → IsHeld new h
+  held_grown g h old new grows held =
+      let (plans, is) = some_plans old h held in
+      held_by new h plans (ap (λ m. plans_at m h) grows.behind ∙ plans_at-push_old old grows.added h plans is)
+
+  -- a memo with a goal that wasn't held is longer
+  pub grown : (g h : Goal) (old new : List GoalSet) → Grows q rules g old new → plans_at old h ≡ None → IsHeld new h → length old < length new
+  grown g h old new grows missing held = go grows.added grows.behind
+    where
+      go : (added : List GoalSet) → new ≡ old ++ added → length old < length new
+      go [] is = absurd (let same : new ≡ old = is ∙ append-nil old in subst (λ (o : Option (List DerivedPlan)). IsSome o) (ap (λ m. plans_at m h) same ∙ missing) held)
+      go (x ∷ xs) is = let l = ap length is in let m = length-append old (x ∷ xs) in omega (arith, l, m)
+
+  -- ---- a put
+
+  module _ (g : Goal) (plans : List DerivedPlan) (old new : List GoalSet) (none : plans_at old g ≡ None) (put : new ≡ old ++ (g, plans) ∷ []) where
+    pub put_is_held : IsHeld new g
+    put_is_held = held_by new g plans (ap (λ m. plans_at m g) put ∙ plans_at-push_new old g plans none)
+
+    pub frontiers_put : HoldsFrontiers q rules old → IsBestOf q rules (ForGoal g.tables g.pushed) plans → HoldsFrontiers q rules new
+    unfolding HoldsFrontiers
+    frontiers_put frontiers best = λ h found is. of h found (plans_at-push_cases old g h plans found (ap (λ m. plans_at m h) (sym put) ∙ is))
+      where
+        of : (h : Goal) (found : List DerivedPlan) → (plans_at old h ≡ Some found) ⊎ ((g ≡ h) × (plans ≡ found)) → IsBestOf q rules (ForGoal h.tables h.pushed) found
+        of h found (inl before) = frontiers h found before
+        of h found (inr here) =
+            subst (λ (xs : List DerivedPlan). IsBestOf q rules (ForGoal h.tables h.pushed) xs) here.1 (subst (λ (k : Goal). IsBestOf q rules (ForGoal k.tables k.pushed) plans) here.0 best)
+
+    pub closed_put : IsClosed q rules old → HoldsAsked q rules old g → IsClosed q rules new
+    unfolding (IsClosed, HoldsAsked)
+    closed_put closed asked = λ h held k asks. later k (before h held k asks)
+      where
+        later : (k : Goal) → IsHeld old k → IsHeld new k
+        later k held = let (found, is) = some_plans old k held in held_by new k found (ap (λ m. plans_at m k) put ∙ plans_at-push_old old ((g, plans) ∷ []) k found is)
+
+        of : (h : Goal) (found : List DerivedPlan) → (plans_at old h ≡ Some found) ⊎ ((g ≡ h) × (plans ≡ found)) → (k : Goal) → Asks q rules h.tables h.pushed k.tables k.pushed → IsHeld old k
+        of h found (inl is) k asks = closed h (held_by old h found is) k asks
+        of h found (inr here) k asks = asked k (subst (λ (u : Goal). Asks q rules u.tables u.pushed k.tables k.pushed) (sym here.0) asks)
+
+        before : (h : Goal) → IsHeld new h → (k : Goal) → Asks q rules h.tables h.pushed k.tables k.pushed → IsHeld old k
+        before h held k asks =
+            let (found, is) = some_plans new h held in
+            of h found (plans_at-push_cases old g h plans found (ap (λ m. plans_at m h) (sym put) ∙ is)) k asks

@@ -1,0 +1,5 @@
+mod Operators
+mod Glues
+mod Ranges
+mod Alternatives
+mod Splits

@@ -1,0 +1,2 @@
+mod MemoLaws
+pub mod Laws
