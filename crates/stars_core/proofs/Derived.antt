@@ -29,7 +29,7 @@ use Rattle.stars_core.specs.Shelves.{HeldAs, RefusedAt, IsAnswered, Puts}
 use Rattle.stars_core.specs.Answers.{OfCommand, Answered, Complete, RefusedExactly, StopTold, LinePut}
 use Rattle.stars_core.proofs.Says.{one_reading}
 use Rattle.stars_core.proofs.FaultLaws.{one_stop, stopped_passes}
-use Rattle.stars_core.proofs.Frontiers.{some_plan}
+use Rattle.plan_choice.proofs.Laws.{some_listed}
 
 of_command : (words : CommandLine) (command : Command) (P : Command → Type 0) → command_of words ≡ Some command → OfCommand words P → P command
 of_command words command P is of = rw is at of
@@ -132,7 +132,7 @@ same_answer command files words r c q rules query found text held says a =
 has_plan : (command : Command) (rules : RuleFile) (query : QueryTree) (text : List ℕ) → WellFormedQuery query → IsAccepted rules → AnswerText command rules query Planned text
     → (d : Deriv) × (v : Props) × IsRoot query rules d v
 has_plan commands.Plan rules query text formed accepted answer = (answer.0, answer.1, answer.2.root)
-has_plan commands.Frontier rules query text formed accepted answer = some_plan rules query answer.0 answer.1 formed accepted answer.2
+has_plan commands.Frontier rules query text formed accepted answer = some_listed query rules formed accepted answer.0 answer.1 answer.2
 
 has_none : (command : Command) (rules : RuleFile) (query : QueryTree) (text : List ℕ) → AnswerText command rules query Unplanned text → HasNoPlan rules query
 has_none commands.Plan rules query text answer = answer.0

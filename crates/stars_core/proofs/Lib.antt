@@ -2,7 +2,6 @@ mod Words
 pub mod FaultLaws
 pub mod Along
 pub mod Causes
-mod Frontiers
 pub mod Derived
 pub mod Says
 pub mod ThreeTexts
