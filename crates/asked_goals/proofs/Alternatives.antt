@@ -70,7 +70,7 @@ module _ (q : Query) (rules : RuleFile) where
   asks_alternative star b d t k named asked =
       let (n, picks, y, is, asks) = (asks_parts q rules (Call star b) t k).0 asked in
       let (a, there, body) = bind (λ (a : Alternative). option_and_then (λ (c : List RuleValue). if meets q c a.condition then Some (Expression a.body c) else None) (bound q a.ranges picks b))
-          (alternative_of rules star n) y is in
+      (alternative_of rules star n) y is in
       let (c, values, chosen_is) = bind (λ (c : List RuleValue). if meets q c a.condition then Some (Expression a.body c) else None) (bound q a.ranges picks b) y body in
       let (ok, same) = chosen (meets q c a.condition) (Some (Expression a.body c)) y chosen_is in
       let at = at_number d n a (ap (option_and_then (λ (s : StarDef). numbered s.alternatives n)) (sym named) ∙ there) in
@@ -81,13 +81,13 @@ module _ (q : Query) (rules : RuleFile) where
   alternative_asks star b d i a t k named at (more, e, values, ok, asks) =
       let back : i + 1 - 1 ≡ i = omega arith in
       let there : alternative_of rules star (i + 1) ≡ Some a =
-          ap (option_and_then (λ (s : StarDef). numbered s.alternatives (i + 1))) named
-          ∙ ap (λ (t : Bool). if t then None else slice_get d.alternatives (i + 1 - 1)) (ne_eqb (i + 1) 0 (λ h. let no : ⊥ = omega (arith, h) in no))
-          ∙ ap (slice_get d.alternatives) back ∙ at in
+      ap (option_and_then (λ (s : StarDef). numbered s.alternatives (i + 1))) named
+      ∙ ap (λ (t : Bool). if t then None else slice_get d.alternatives (i + 1 - 1)) (ne_eqb (i + 1) 0 (λ h. let no : ⊥ = omega (arith, h) in no))
+      ∙ ap (slice_get d.alternatives) back ∙ at in
       let is : body_of q rules star b (i + 1) more ≡ Some (Expression a.body e) =
-          ap (option_and_then (λ (a : Alternative). option_and_then (λ (c : List RuleValue). if meets q c a.condition then Some (Expression a.body c) else None) (bound q a.ranges more b))) there
-          ∙ ap (option_and_then (λ (c : List RuleValue). if meets q c a.condition then Some (Expression a.body c) else None)) values
-          ∙ ap (λ (t : Bool). if t then Some (Expression a.body e) else None) ok in
+      ap (option_and_then (λ (a : Alternative). option_and_then (λ (c : List RuleValue). if meets q c a.condition then Some (Expression a.body c) else None) (bound q a.ranges more b))) there
+      ∙ ap (option_and_then (λ (c : List RuleValue). if meets q c a.condition then Some (Expression a.body c) else None)) values
+      ∙ ap (λ (t : Bool). if t then Some (Expression a.body e) else None) ok in
       (asks_parts q rules (Call star b) t k).1 (i + 1, more, Expression a.body e, is, asks)
 
   -- a STAR that isn't there asks for nothing
@@ -95,7 +95,7 @@ module _ (q : Query) (rules : RuleFile) where
   no_star_asks star b t k none asked =
       let (n, picks, y, is, asks) = (asks_parts q rules (Call star b) t k).0 asked in
       let (a, there, body) = bind (λ (a : Alternative). option_and_then (λ (c : List RuleValue). if meets q c a.condition then Some (Expression a.body c) else None) (bound q a.ranges picks b))
-          (alternative_of rules star n) y is in
+      (alternative_of rules star n) y is in
       none_is a (ap (option_and_then (λ (s : StarDef). numbered s.alternatives n)) (sym none) ∙ there)
 
   -- ---- for-all names, one by one

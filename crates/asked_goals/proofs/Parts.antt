@@ -59,20 +59,20 @@ module _ (q : Query) (rules : RuleFile) (memo : List GoalSet) where
       → FirstMissing memo (AsksFrom q rules (Expression part b)) (Some h) → FirstMissing memo (AsksFrom q rules (Expression e b)) (Some h)
   left_missing e f args left right part b h is same m =
       of_expression e (expr.Binary f args left right) b (Some h) (is ∙ made-Binary f args left right)
-          (by_parts (Expression (expr.Binary f args left right) b) (Some h) (let own = at_part left part b (Some h) same m in (inl own.0, own.1)))
+      (by_parts (Expression (expr.Binary f args left right) b) (Some h) (let own = at_part left part b (Some h) same m in (inl own.0, own.1)))
 
   pub right_missing : (e : PlanExpr) (f : Flavour) (args : List ValueExpr) (left right first second : PlanExpr) (b : List RuleValue) (r : Option Goal) → e ≡ made.Binary f args left right → first ≡ left → second ≡ right
       → FirstMissing memo (AsksFrom q rules (Expression first b)) None → FirstMissing memo (AsksFrom q rules (Expression second b)) r → FirstMissing memo (AsksFrom q rules (Expression e b)) r
   right_missing e f args left right first second b r is same_left same_right l m =
       of_expression e (expr.Binary f args left right) b r (is ∙ made-Binary f args left right)
-          (by_parts (Expression (expr.Binary f args left right) b) r
-              (then_missing memo (AsksFrom q rules (Expression left b)) (AsksFrom q rules (Expression right b)) r (at_part left first b None same_left l) (at_part right second b r same_right m)))
+      (by_parts (Expression (expr.Binary f args left right) b) r
+      (then_missing memo (AsksFrom q rules (Expression left b)) (AsksFrom q rules (Expression right b)) r (at_part left first b None same_left l) (at_part right second b r same_right m)))
 
   pub reference_missing : (e : PlanExpr) (star : List ℕ) (args : List ValueExpr) (b values : List RuleValue) (r : Option Goal) → e ≡ made.Reference star args → values ≡ values_of q b args
       → FirstMissing memo (AsksFrom q rules (Call star values)) r → FirstMissing memo (AsksFrom q rules (Expression e b)) r
   reference_missing e star args b values r is are m =
       of_expression e (made.Reference star args) b r is
-          (by_parts (Expression (made.Reference star args) b) r (subst (λ (vs : List RuleValue). FirstMissing memo (AsksFrom q rules (Call star vs)) r) are m))
+      (by_parts (Expression (made.Reference star args) b) r (subst (λ (vs : List RuleValue). FirstMissing memo (AsksFrom q rules (Call star vs)) r) are m))
 
   -- ---- Glue
 

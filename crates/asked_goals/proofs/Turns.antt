@@ -111,9 +111,11 @@ pub member_inside : (s : Search) (star : List ℕ) (a : Alternative) (f : ForAll
     → Contains (members_of s.query.now c f.range) v → next ≡ c ++ v ∷ [] → IsInside s star a fs next
 member_inside s star a f fs c inside v next among is =
     let (n, picked, w) = inside in
-    let (m, number, value) = mapped_in (member_at f.range) (numbers_of s.query.now c f.range) v among in
-    (n, picked ++ (m + 1) ∷ [],
-        subst (λ (b : List RuleValue). IsWithin s star n a fs (picked ++ (m + 1) ∷ []) b) (ap (λ u. c ++ u ∷ []) value ∙ sym is) (one_bound s star n a f fs picked c w m number))
+    let (m, number, value) = mapped_in (member_at f.range) (numbers_of s.query.now c f.range) v among in (
+      n,
+      picked ++ (m + 1) ∷ [],
+      subst (λ (b : List RuleValue). IsWithin s star n a fs (picked ++ (m + 1) ∷ []) b) (ap (λ u. c ++ u ∷ []) value ∙ sym is) (one_bound s star n a f fs picked c w m number),
+    )
 
 -- ---- the splits of a goal
 

@@ -12,7 +12,12 @@ use star_model::rules::ValueExpr;
 use star_value::{Env, preds, tables_of};
 
 /// The goal of the Glue, if the memo doesn't hold it.
-pub fn missing_at_glue(search: &Search<'_>, stream: &ValueExpr, applied: &ValueExpr, env: &Env) -> Option<Goal>
+pub fn missing_at_glue(
+    search: &Search<'_>,
+    stream: &ValueExpr,
+    applied: &ValueExpr,
+    env: &Env,
+) -> Option<Goal>
     requires { WellFormedQuery search.now.query.now }
     ensures { FirstMissing search.now.memo.now (AsksFrom search.now.query.now search.now.rules.now (Expression (made.Glue stream.now applied.now) env.now)) result }
 {

@@ -24,7 +24,10 @@ pub fn missing_in(search: &Search<'_>, expr: &PlanExpr, env: &Env) -> Option<Goa
 {
     search.rules.stands();
     match expr {
-        PlanExpr::Leaf { flavour: _, args: _ } => None,
+        PlanExpr::Leaf {
+            flavour: _,
+            args: _,
+        } => None,
         PlanExpr::Unary {
             flavour: _,
             args: _,
@@ -57,7 +60,13 @@ pub fn missing_in_call(search: &Search<'_>, star: &Name, env: &Env) -> Option<Go
     search.rules.stands();
     let found = search.rules.star(star)?;
     for alternative in found.alternatives.as_slice() {
-        let missing = missing_in_ranges(search, star, alternative, alternative.ranges.as_slice(), env);
+        let missing = missing_in_ranges(
+            search,
+            star,
+            alternative,
+            alternative.ranges.as_slice(),
+            env,
+        );
         if let Some(goal) = missing {
             return Some(goal);
         }
@@ -67,7 +76,13 @@ pub fn missing_in_call(search: &Search<'_>, star: &Name, env: &Env) -> Option<Go
 
 // The same of an alternative of which these for-all names are still to be bound.
 #[cycle(asking)]
-fn missing_in_ranges(search: &Search<'_>, star: &Name, alternative: &Alternative, ranges: &[ForAll], env: &Env) -> Option<Goal>
+fn missing_in_ranges(
+    search: &Search<'_>,
+    star: &Name,
+    alternative: &Alternative,
+    ranges: &[ForAll],
+    env: &Env,
+) -> Option<Goal>
     requires posed { IsPosed search.now }
     requires inside { IsInside search.now star.now alternative.now ranges.now env.now }
     ensures { FirstMissing search.now.memo.now (AsksOver search.now.query.now search.now.rules.now alternative.now ranges.now env.now) result }
@@ -80,7 +95,14 @@ fn missing_in_ranges(search: &Search<'_>, star: &Name, alternative: &Alternative
 
 // The same where the first of these names is bound to each member of its range in turn.
 #[cycle(asking)]
-fn missing_in_members(search: &Search<'_>, star: &Name, alternative: &Alternative, first: &ForAll, more: &[ForAll], env: &Env) -> Option<Goal>
+fn missing_in_members(
+    search: &Search<'_>,
+    star: &Name,
+    alternative: &Alternative,
+    first: &ForAll,
+    more: &[ForAll],
+    env: &Env,
+) -> Option<Goal>
     requires posed { IsPosed search.now }
     requires inside { IsInside search.now star.now alternative.now (first.now ∷ more.now) env.now }
     ensures { FirstMissing search.now.memo.now (AsksOver search.now.query.now search.now.rules.now alternative.now (first.now ∷ more.now) env.now) result }
@@ -96,7 +118,12 @@ fn missing_in_members(search: &Search<'_>, star: &Name, alternative: &Alternativ
 
 // The same where all are bound.
 #[cycle(asking)]
-fn missing_in_body(search: &Search<'_>, star: &Name, alternative: &Alternative, env: &Env) -> Option<Goal>
+fn missing_in_body(
+    search: &Search<'_>,
+    star: &Name,
+    alternative: &Alternative,
+    env: &Env,
+) -> Option<Goal>
     requires posed { IsPosed search.now }
     requires inside { IsInside search.now star.now alternative.now [] env.now }
     ensures { FirstMissing search.now.memo.now (AsksOver search.now.query.now search.now.rules.now alternative.now [] env.now) result }

@@ -1,1 +1,4 @@
 mod Growing
+mod AskedLaws
+mod EmptyMemos
+pub mod Laws

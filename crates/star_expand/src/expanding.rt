@@ -25,7 +25,13 @@ use table_set_memo::Memo;
 /// Adds the goal's set to the memo, and those of all goals that it asks for, as far as the memo doesn't hold them. Where memory is wanting,
 /// the sets that were added are right, and a second call goes on from there.
 #[cycle(expand)]
-pub fn expand<'a>(alloc: Global, rules: &'a CheckedRules, query: &'a Query, goal: Goal, memo: &mut Memo) -> Result<(), AllocError>
+pub fn expand<'a>(
+    alloc: Global,
+    rules: &'a CheckedRules,
+    query: &'a Query,
+    goal: Goal,
+    memo: &mut Memo,
+) -> Result<(), AllocError>
     requires query { WellFormedQuery query.now }
     requires goal { IsGoal query.now goal.tables goal.pushed }
     requires frontiers { HoldsFrontiers query.now rules.now memo.old }
@@ -49,7 +55,13 @@ pub fn expand<'a>(alloc: Global, rules: &'a CheckedRules, query: &'a Query, goal
 }
 
 // The goal's plans over a memo that has what it asks for.
-fn plans_for<'a>(alloc: Global, rules: &'a CheckedRules, query: &'a Query, goal: &Goal, memo: &'a Memo) -> Result<PlanSet<Entry>, AllocError>
+fn plans_for<'a>(
+    alloc: Global,
+    rules: &'a CheckedRules,
+    query: &'a Query,
+    goal: &Goal,
+    memo: &'a Memo,
+) -> Result<PlanSet<Entry>, AllocError>
     requires query { WellFormedQuery query.now }
     requires goal { IsGoal query.now goal.now.tables goal.now.pushed }
     requires frontiers { HoldsFrontiers query.now rules.now memo.now }
@@ -67,7 +79,13 @@ fn plans_for<'a>(alloc: Global, rules: &'a CheckedRules, query: &'a Query, goal:
 
 // Adds the sets of all goals that the goal asks for, but not its own.
 #[cycle(expand)]
-fn fill<'a>(alloc: Global, rules: &'a CheckedRules, query: &'a Query, goal: &Goal, memo: &mut Memo) -> Result<(), AllocError>
+fn fill<'a>(
+    alloc: Global,
+    rules: &'a CheckedRules,
+    query: &'a Query,
+    goal: &Goal,
+    memo: &mut Memo,
+) -> Result<(), AllocError>
     requires query { WellFormedQuery query.now }
     requires goal { IsGoal query.now goal.now.tables goal.now.pushed }
     requires frontiers { HoldsFrontiers query.now rules.now memo.old }

@@ -1,5 +1,6 @@
 -- Of the set of its goal, what Glue makes is best where Glue stands.
 use Rattle.std.proofs.Common.{◌≡◌, ℕ, List, [], Result, Ok, Err, IfOk, Option, Some, None, IsSome, refl, ap, sym, ◌∙◌, subst}
+use Rattle.std.proofs.lemmas.Bool.{false≢true}
 use Rattle.std.specs.declared.alloc.AllocError.{AllocError}
 use Rattle.star_model.specs.AskedGoals.{Asks}
 use Rattle.star_model.specs.Costs.{costs_of}
@@ -36,7 +37,7 @@ module _ (s : Search) (stream preds : ValueExpr) (b : List RuleValue) (t : Strea
   glue_is_held ready leads = ready.asked g (Asks.by_glue s.goal.tables s.goal.pushed g.tables g.pushed stream preds b leads own_goal)
 
   pub glue_is_there : IsOpen s → LeadsTo s (Expression (made.Glue stream preds) b) → None ≡ plans_at s.memo.now g → ⊥
-  glue_is_there ready leads none = subst (λ (o : Option (List DerivedPlan)). IsSome o) (sym none) (glue_is_held ready leads)
+  glue_is_there ready leads none = false≢true (subst (λ (o : Option (List DerivedPlan)). IsSome o) (sym none) (glue_is_held ready leads))
 
   best_there : IsOpen s → (plans : List DerivedPlan) → Some plans ≡ plans_at s.memo.now g → IsBestOf s.query.now s.rules.now (ForGoal g.tables g.pushed) plans
   unfolding HoldsFrontiers

@@ -54,7 +54,7 @@ module _ (q : Query) (rules : RuleFile) (pass : CostsPass (costs_of rules)) (e :
   leaf_done (Ok set) is h =
       let way : Gathers is_better_plan [] set (LeafWay q (costs_of rules) f args b) =
       settled q rules f args given b costs o (λ cs g p. Gathers is_better_plan [] set (λ x. derived_leaf q cs g p ≡ Some x)) are same is_op h.gathered in
-      subst (λ (x : PlanExpr). IsBestOf q rules (Expression x b) set) (sym is) (record { gathered = leaf_exchange q rules pass f args b [] set way; apart = h.apart })
+      subst (λ (x : PlanExpr). IsBestOf q rules (Expression x b) set) (sym is) (record { gathered = leaf_exchange q rules f args b [] set way; apart = h.apart })
 
   pub unary_done : (input part : PlanExpr) (inputs : List DerivedPlan) (r : Result (List DerivedPlan) AllocError) → e ≡ made.Unary f args input → part ≡ input → IsBestOf q rules (Expression part b) inputs
       → IfOk r (IsFrontier is_better_plan (From inputs (λ i x. derived_unary q costs (flavour_of o) o i ≡ Some x))) → IfOk r (IsBestOf q rules (Expression e b))

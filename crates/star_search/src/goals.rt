@@ -25,7 +25,7 @@ pub fn goal_plans(alloc: Global, search: &Search<'_>) -> Result<PlanSet<Entry>, 
     let target = Target::of_goal(search.query, search.goal);
     let mut out = PlanSet::new(alloc);
     if search.goal.tables.len() == 1 {
-        add_split(alloc, search, &target, None, &mut out)?;
+        add_split(alloc, search, &target, &None, &mut out)?;
     } else {
         add_splits(alloc, search, &target, &mut out)?;
     }
@@ -47,7 +47,7 @@ fn add_splits(
         (From (splits search.now.goal.tables) (λ p. SplitWay search.now.query.now search.now.rules.now search.now.goal.tables search.now.goal.pushed (Some p)))) }
 {
     for split in search.goal.tables.splits() {
-        add_split(alloc, search, target, Some(split), out)?;
+        add_split(alloc, search, target, &Some(split), out)?;
     }
     Ok(())
 }
@@ -57,18 +57,18 @@ fn add_split(
     alloc: Global,
     search: &Search<'_>,
     target: &Target,
-    split: Option<(QuantSet, QuantSet)>,
+    split: &Option<(QuantSet, QuantSet)>,
     out: &mut PlanSet<Entry>,
 ) -> Result<(), AllocError>
     requires open { IsOpen search.now }
     requires target { target.now ≡ target_of search.now.query.now search.now.goal }
-    requires split { may_split search.now.goal.tables split ≡ true }
+    requires split { may_split search.now.goal.tables split.now ≡ true }
     ensures { OnOk result (Gathers is_better_plan out.old out.new
-        (SplitWay search.now.query.now search.now.rules.now search.now.goal.tables search.now.goal.pushed split)) }
+        (SplitWay search.now.query.now search.now.rules.now search.now.goal.tables search.now.goal.pushed split.now)) }
 {
     search.rules.stands();
-    let root = root_name(search.rules, split);
-    let values = root_values(search.goal, split);
+    let values = root_values(search.goal, *split);
+    let root = root_name(search.rules, *split);
     let plans = plans_of_call(alloc, search, root, &values)?;
-    add_goals(alloc, target, split, &plans, out)
+    add_goals(alloc, target, *split, &plans, out)
 }

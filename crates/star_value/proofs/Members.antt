@@ -1,10 +1,9 @@
 -- The set of all quantifiers.
-use Rattle.std.proofs.Common.{◌≡◌, ℕ, ◌+◌, ◌<◌, Bool, true, false, ◌||◌, List, [], ◌∷◌, zero, suc, length, refl, sym, ◌∙◌, nat_lt, nat_eq, arith}
-use Rattle.std.specs.Prelude.{None, slice_get}
+use Rattle.std.proofs.Common.{◌≡◌, ℕ, ◌+◌, ◌<◌, Bool, true, false, ◌||◌, List, [], ◌∷◌, zero, suc, length, sym, ◌∙◌, nat_lt, nat_eq, arith}
+use Rattle.std.specs.Prelude.{slice_get}
 use Rattle.std.specs.Option.{option_map_or}
-use Rattle.star_model.specs.Sets.{has, set_of, single, union, members, size}
+use Rattle.star_model.specs.Sets.{has, set_of, single, union}
 use Rattle.star_model.specs.Predicates.{all_quants}
-use Rattle.star_model.specs.Meaning.{one_of, only_member}
 use Rattle.star_model.specs.declared.query.Query.{Query}
 use Rattle.star_model.specs.declared.query.QuantDef.{QuantDef}
 use Rattle.star_model.proofs.Laws.{has-zero, has-union, has-single, has-set_of, same_set, set_of-lt, union-lt, single-lt}

@@ -18,5 +18,6 @@ pub use conditions::holds;
 pub use env::Env;
 pub use numbers::{NumberedIter, numbered};
 pub use ranges::{RangeIter, range};
+pub use sets::all_quants;
 pub use streams::tables_of;
 pub use values::value;

@@ -38,7 +38,7 @@ pub fn meet_of(v: &RuleValue, w: &RuleValue) -> RuleValue
     }
 }
 
-/// The set of all quantifiers.
+/// The set of all quantifiers of the query.
 #[tactic(auto, using(crate::proofs::Members::all_rules))]
 pub fn all_quants(query: &Query) -> QuantSet
     requires { WellFormedQuery query.now }

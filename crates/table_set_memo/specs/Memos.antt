@@ -1,5 +1,5 @@
 -- A memo as the list of its goals with their sets, in the order in which they were put.
-use Rattle.std.specs.Prelude.{◌≡◌, ℕ, Bool, ◌&&◌, not, nat_eq, List, Option, map, IsSome}
+use Rattle.std.specs.Prelude.{Bool, ◌&&◌, nat_eq, List, Option, map, IsSome}
 use Rattle.std.specs.List.{find}
 use Rattle.std.specs.Option.{option_map}
 use Rattle.star_model.specs.declared.plans.Goal.{Goal}

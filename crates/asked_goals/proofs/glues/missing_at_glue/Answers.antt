@@ -10,14 +10,14 @@ returns-in-Some c =
     let s = c.args.search.now in
     let tables = c.tables_of-tables.ensures s.query.now in
     let is : goal_of s.query.now (as_stream (meaning s.query.now c.args.env.now c.args.stream.now)).tables (as_preds (meaning s.query.now c.args.env.now c.args.applied.now)) ≡ ForGoal c.glued_goal-goal.result.tables c.glued_goal-goal.result.pushed =
-        (λ i. goal_of s.query.now (sym tables i) (sym c.preds.ensures i)) ∙ c.glued_goal-goal.ensures in
+    (λ i. goal_of s.query.now (sym tables i) (sym c.preds.ensures i)) ∙ c.glued_goal-goal.ensures in
     glue_held s.query.now s.rules.now s.memo.now c.args.stream.now c.args.applied.now c.args.env.now c.glued_goal-goal.result is
-        (subst (λ (o : Option (List DerivedPlan)). IsSome o) c.in-Some.ensures refl)
+    (subst (λ (o : Option (List DerivedPlan)). IsSome o) c.in-Some.ensures refl)
 
 pub returns-in-None : goal.returns-in-None
 returns-in-None c =
     let s = c.args.search.now in
     let tables = c.tables_of-tables.ensures s.query.now in
     let is : goal_of s.query.now (as_stream (meaning s.query.now c.args.env.now c.args.stream.now)).tables (as_preds (meaning s.query.now c.args.env.now c.args.applied.now)) ≡ ForGoal c.glued_goal-goal.result.tables c.glued_goal-goal.result.pushed =
-        (λ i. goal_of s.query.now (sym tables i) (sym c.preds.ensures i)) ∙ c.glued_goal-goal.ensures in
+    (λ i. goal_of s.query.now (sym tables i) (sym c.preds.ensures i)) ∙ c.glued_goal-goal.ensures in
     glue_missing s.query.now s.rules.now s.memo.now c.args.stream.now c.args.applied.now c.args.env.now c.glued_goal-goal.result is (sym c.in-None.ensures)

@@ -42,6 +42,8 @@ loop-split-preserved c =
 pub returns : goal.returns
 returns c =
     let s = c.args.goal.now.tables in
-    let all = seen_all (splits s) c.loop-split.yielded (splits_left c.loop-split.split-iterator) c.loop-split.invariant.all c.in-None.ensures.steps.0 in
-    (λ _. holds_of_splits c.args.query.now c.args.rules.now c.args.memo.now c.args.goal.now c.requires.goal.bounds.0 (several s c.len.result c.len.ensures c.if-len-eq1.false)
-        (λ p listed. c.loop-split.invariant.held p (subst (λ (xs : List (ℕ × ℕ)). Contains {X = ℕ × ℕ} xs p) all listed)), λ _. refl)
+    let all = seen_all (splits s) c.loop-split.yielded (splits_left c.loop-split.split-iterator) c.loop-split.invariant.all c.in-None.ensures.steps.0 in (
+      λ _. holds_of_splits c.args.query.now c.args.rules.now c.args.memo.now c.args.goal.now c.requires.goal.bounds.0 (several s c.len.result c.len.ensures c.if-len-eq1.false)
+          (λ p listed. c.loop-split.invariant.held p (subst (λ (xs : List (ℕ × ℕ)). Contains {X = ℕ × ℕ} xs p) all listed)),
+      λ _. refl,
+    )

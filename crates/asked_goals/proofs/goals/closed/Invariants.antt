@@ -9,6 +9,6 @@ use Rattle.asked_goals.proofs.goals.closed.Given as goal
 
 abbrev pub invariant-loop-split : goal.invariant-loop-split
 invariant-loop-split l = record {
-    all : splits l.goal.tables ≡ l.yielded ++ splits_left l.split-iterator;
-    held : (p : ℕ × ℕ) → Contains l.yielded p → FirstMissing l.memo (AsksFrom l.query l.rules (root_call l.goal.tables l.goal.pushed (Some p))) None
-  }
+  all : splits l.goal.tables ≡ l.yielded ++ splits_left l.split-iterator;
+  held : (p : ℕ × ℕ) → Contains l.yielded p → FirstMissing l.memo (AsksFrom l.query l.rules (root_call l.goal.tables l.goal.pushed (Some p))) None;
+}

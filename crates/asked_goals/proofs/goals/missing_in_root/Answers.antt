@@ -12,12 +12,12 @@ pub missing_in_call-requires-clause-leads : goal.missing_in_call-requires-clause
 missing_in_call-requires-clause-leads c =
     let s = c.args.search.now in
     let here : Call (root_of_split (Some c.args.split)) (root_values s.goal.tables s.goal.pushed (Some c.args.split)) ≡ Call c.root_name-root.result.now c.root_values.result =
-        (λ i. Call (sym c.root_name-root.ensures i) (sym c.root_values.ensures i)) in
+    (λ i. Call (sym c.root_name-root.ensures i) (sym c.root_values.ensures i)) in
     subst (λ (x : Expected). LeadsTo s x) here (to_root s (Some c.args.split) c.requires.split)
 
 pub returns : goal.returns
 returns c =
     let s = c.args.search.now in
     let here : Call c.root_name-root.result.now c.root_values.result ≡ root_call s.goal.tables s.goal.pushed (Some c.args.split) =
-        (λ i. Call (c.root_name-root.ensures i) (c.root_values.ensures i)) ∙ sym (root_is_called s.goal.tables s.goal.pushed (Some c.args.split)) in
+    (λ i. Call (c.root_name-root.ensures i) (c.root_values.ensures i)) ∙ sym (root_is_called s.goal.tables s.goal.pushed (Some c.args.split)) in
     subst (λ (x : Expected). FirstMissing s.memo.now (AsksFrom s.query.now s.rules.now x) c.missing_in_call.result) here c.missing_in_call.ensures

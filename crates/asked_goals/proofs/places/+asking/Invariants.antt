@@ -30,6 +30,6 @@ invariant-missing_in_call-loop-alternative l =
 
 abbrev pub invariant-missing_in_members-loop-member : goal.invariant-missing_in_members-loop-member
 invariant-missing_in_members-loop-member l = record {
-    all : members_of l.search.query.now l.env l.fn.first.range ≡ l.yielded ++ l.member-iterator;
-    held : (v : RuleValue) → Contains l.yielded v → FirstMissing l.search.memo.now (AsksOver l.search.query.now l.search.rules.now l.alternative l.more (l.env ++ v ∷ [])) None
-  }
+  all : members_of l.search.query.now l.env l.fn.first.range ≡ l.yielded ++ l.member-iterator;
+  held : (v : RuleValue) → Contains l.yielded v → FirstMissing l.search.memo.now (AsksOver l.search.query.now l.search.rules.now l.alternative l.more (l.env ++ v ∷ [])) None;
+}

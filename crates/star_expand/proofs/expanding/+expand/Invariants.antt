@@ -19,19 +19,19 @@ decreases-fill_split l = 3 * size l.goal.now.tables
 
 abbrev pub invariant-fill-loop-split : goal.invariant-fill-loop-split
 invariant-fill-loop-split l = record {
-    frontiers : HoldsFrontiers l.query l.rules l.memo;
-    closed : IsClosed l.query l.rules l.memo;
-    grows : Grows l.query l.rules l.goal l.initial.memo l.memo;
-    all : splits l.goal.tables ≡ l.yielded ++ splits_left l.split-iterator;
-    held : (p : ℕ × ℕ) → Contains l.yielded p → FirstMissing l.memo (AsksFrom l.query l.rules (root_call l.goal.tables l.goal.pushed (Some p))) None
-  }
+  frontiers : HoldsFrontiers l.query l.rules l.memo;
+  closed : IsClosed l.query l.rules l.memo;
+  grows : Grows l.query l.rules l.goal l.initial.memo l.memo;
+  all : splits l.goal.tables ≡ l.yielded ++ splits_left l.split-iterator;
+  held : (p : ℕ × ℕ) → Contains l.yielded p → FirstMissing l.memo (AsksFrom l.query l.rules (root_call l.goal.tables l.goal.pushed (Some p))) None;
+}
 
 abbrev pub invariant-fill_split-loop-next : goal.invariant-fill_split-loop-next
 invariant-fill_split-loop-next l = record {
-    frontiers : HoldsFrontiers l.query l.rules l.memo;
-    closed : IsClosed l.query l.rules l.memo;
-    grows : Grows l.query l.rules l.goal l.initial.memo l.memo
-  }
+  frontiers : HoldsFrontiers l.query l.rules l.memo;
+  closed : IsClosed l.query l.rules l.memo;
+  grows : Grows l.query l.rules l.goal l.initial.memo l.memo;
+}
 
 abbrev pub decreases-fill_split-loop-next : goal.decreases-fill_split-loop-next
 decreases-fill_split-loop-next l = 2 ^ 64 - length l.memo

@@ -23,9 +23,9 @@ decreases-plans_of l = work_at l.search.now.rules.now l.expr.now
 
 abbrev pub invariant-add_members-loop-number : goal.invariant-add_members-loop-number
 invariant-add_members-loop-number l =
-    Passes is_better_plan (numbered_members l.search.query.now l.env l.fn.first.now.range) l.yielded l.number-iterator l.initial.out l.out
+    Passes is_better_plan (numbered_members l.search.query.now l.env l.fn.first.range) l.yielded l.number-iterator l.initial.out l.out
     (NextWay l.search.query.now l.search.rules.now l.part.star.now l.part.number l.part.alternative.now l.more l.picked l.env)
 
 abbrev pub invariant-plans_of_call-loop-index : goal.invariant-plans_of_call-loop-index
 invariant-plans_of_call-loop-index l =
-    Gathers is_better_plan [] l.out (FirstWays l.search.query.now l.search.rules.now l.star l.env l.found.now.alternatives l.index)
+    Gathers is_better_plan [] l.out (FirstWays l.search.query.now l.search.rules.now l.star l.env l.alternative-items l.index)

@@ -9,4 +9,4 @@ use Rattle.star_search.proofs.goals.add_splits.Given as goal
 abbrev pub invariant-loop-split : goal.invariant-loop-split
 invariant-loop-split l =
     Passes is_better_plan (splits l.search.goal.tables) l.yielded (splits_left l.split-iterator) l.initial.out l.out
-        (λ p. SplitWay l.search.query.now l.search.rules.now l.search.goal.tables l.search.goal.pushed (Some p))
+    (λ p. SplitWay l.search.query.now l.search.rules.now l.search.goal.tables l.search.goal.pushed (Some p))

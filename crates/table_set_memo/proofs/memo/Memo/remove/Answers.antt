@@ -1,4 +1,4 @@
-use Rattle.std.proofs.Common.{◌∙◌, ap, sym, subst}
+use Rattle.std.proofs.Common.{◌∙◌, ap}
 use Rattle.std.specs.Map.{remove_entry}
 use Rattle.table_set_memo.specs.Memos.{plans_at, same_goal}
 use Rattle.table_set_memo.proofs.MemoLaws.{plans_at-lookup, removed_others}
