@@ -7,7 +7,7 @@ use Rattle.sb_outside.proofs.Laws.{no_call, goes_on, no_fault_on, fails_on, long
 use Rattle.stars_core.specs.declared.refusal.Refusal.{Refusal}
 use Rattle.stars_core.specs.declared.refusal.Refusal.TheVariants.{Usage, Unread, Refused, Memory}
 use Rattle.stars_core.specs.CommandLine.{Request}
-use Rattle.stars_core.specs.Built.{Given}
+use Rattle.stars_core.specs.Given.{Given}
 use Rattle.stars_core.specs.Faults.{Stops, Passes, PassAll}
 use Rattle.stars_core.specs.Judging.{Refuses}
 use Rattle.stars_core.specs.Shelves.{HeldAs, Fetched, NotFetched, RanInto}

@@ -5,7 +5,6 @@ use Rattle.sb_outside.specs.Counts.{Rose, RoseAtMost}
 use Rattle.sb_outside.specs.Shelf.{ShelfState}
 use Rattle.sb_outside.specs.Sink.{SinkState, Adds, AddsPrefix}
 use Rattle.stars_core.specs.declared.command.Command.{Command}
-use Rattle.stars_core.specs.declared.command.Command.TheVariants.{Plan}
 use Rattle.stars_core.specs.declared.refusal.TextKind.TheVariants.{Rules, Catalogue, Query}
 use Rattle.stars_core.specs.declared.refusal.Refusal.{Refusal}
 use Rattle.stars_core.specs.declared.refusal.Refusal.TheVariants.{Usage, Unread, Refused, Memory}
@@ -14,7 +13,7 @@ use Rattle.stars_core.specs.declared.status.Status.TheVariants as statuses
 use Rattle.stars_core.specs.declared.answer.Answer.{Answer}
 use Rattle.stars_core.specs.CommandLine.{CommandLine, command_of, requests_of}
 use Rattle.stars_core.specs.Lines.{status_of, line_of, cannot_write}
-use Rattle.stars_core.specs.Shelves.{Composed, PlanAnswered}
+use Rattle.stars_core.specs.Shelves.{Composed, IsAnswered}
 use Rattle.stars_core.specs.Answers.{Answered, Output, LinePut}
 
 -- nothing was put out
@@ -25,12 +24,12 @@ answered_at words Usage None shelf shelf' out err err' is composed put = (refl, 
 answered_at words (Unread line) None shelf shelf' out err err' is composed put = cc
 answered_at words (Refused kind line) None shelf shelf' out err err' is composed put = cc
 answered_at words Memory None shelf shelf' out err err' is composed put = cc
-answered_at words Usage (Some Plan) shelf shelf' out err err' is composed put = absurd composed.1
-answered_at words (Unread line) (Some Plan) shelf shelf' out err err' is composed put = (refl, string_bytes line, rw is composed.1, put)
-answered_at words (Refused Rules line) (Some Plan) shelf shelf' out err err' is composed put = (refl, string_bytes line, rw is composed.1, put)
-answered_at words (Refused Catalogue line) (Some Plan) shelf shelf' out err err' is composed put = (refl, string_bytes line, rw is composed.1, put)
-answered_at words (Refused Query line) (Some Plan) shelf shelf' out err err' is composed put = (refl, string_bytes line, rw is composed.1, put)
-answered_at words Memory (Some Plan) shelf shelf' out err err' is composed put = (refl, line_of Memory, (rw is refl, refl), put)
+answered_at words Usage (Some command) shelf shelf' out err err' is composed put = absurd composed.1
+answered_at words (Unread line) (Some command) shelf shelf' out err err' is composed put = (refl, string_bytes line, rw is composed.1, put)
+answered_at words (Refused Rules line) (Some command) shelf shelf' out err err' is composed put = (refl, string_bytes line, rw is composed.1, put)
+answered_at words (Refused Catalogue line) (Some command) shelf shelf' out err err' is composed put = (refl, string_bytes line, rw is composed.1, put)
+answered_at words (Refused Query line) (Some command) shelf shelf' out err err' is composed put = (refl, string_bytes line, rw is composed.1, put)
+answered_at words Memory (Some command) shelf shelf' out err err' is composed put = (refl, line_of Memory, (rw is refl, refl), put)
 
 -- all was put out
 pub output_at : (found : Found) (words : CommandLine) (command : Option Command) (shelf shelf' : ShelfState) (out out' err : SinkState) (answer : Answer)
@@ -38,11 +37,11 @@ pub output_at : (found : Found) (words : CommandLine) (command : Option Command)
     → RoseAtMost 1 out.puts out'.puts → Adds out.taken answer.text.items out'.taken → out'.faults ≡ out.faults
     → Output found words shelf shelf' out out' err err
 output_at found words None shelf shelf' out out' err answer is composed ends puts added same = absurd cc
-output_at found words (Some Plan) shelf shelf' out out' err answer is composed ends puts added same =
+output_at found words (Some command) shelf shelf' out out' err answer is composed ends puts added same =
     rw is (
       composed.1.0,
       answer.text.items ∷ [],
-      (answer.text.items, subst (λ (f : Found). PlanAnswered shelf.held (requests_of Plan words) f answer.text.items) ends composed.1.1, refl),
+      (answer.text.items, subst (λ (f : Found). IsAnswered command shelf.held (requests_of command words) f answer.text.items) ends composed.1.1, refl),
       record { added = rw append-nil added; faults = same; puts = puts; silent = refl },
     )
 
@@ -52,7 +51,7 @@ pub part_at : (words : CommandLine) (command : Option Command) (shelf shelf' : S
     → RoseAtMost 1 out.puts out'.puts → AddsPrefix out.taken answer.text.items out'.taken → Rose out.faults out'.faults → LinePut err err' cannot_write
     → Answered statuses.WriteFault words shelf shelf' out out' err err'
 part_at words None shelf shelf' out out' err err' answer is composed puts added rose put = absurd cc
-part_at words (Some Plan) shelf shelf' out out' err err' answer is composed puts added rose put =
+part_at words (Some command) shelf shelf' out out' err err' answer is composed puts added rose put =
     rw is (
       composed.1.0,
       answer.found,

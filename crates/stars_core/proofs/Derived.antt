@@ -4,10 +4,15 @@ use Rattle.std.specs.Prelude.{slice_get}
 use Rattle.std.proofs.lemmas.List.{append-nil, append_assoc}
 use Rattle.sb_outside.specs.Shelf.{Files, ShelfState}
 use Rattle.sb_outside.specs.Sink.{SinkState}
+use Rattle.star_model.specs.Accepted.{IsAccepted}
+use Rattle.star_model.specs.Derivations.{IsRoot}
+use Rattle.star_model.specs.WellFormed.{WellFormedQuery}
+use Rattle.star_model.specs.declared.derivations.Deriv.{Deriv}
+use Rattle.star_model.specs.declared.plans.Props.{Props}
 use Rattle.star_model.specs.declared.rules.RuleFile.{RuleFile}
 use Rattle.star_model.specs.declared.query.Query.{Query as QueryTree}
 use Rattle.stars_core.specs.declared.command.Command.{Command}
-use Rattle.stars_core.specs.declared.command.Command.TheVariants.{Plan}
+use Rattle.stars_core.specs.declared.command.Command.TheVariants as commands
 use Rattle.stars_core.specs.declared.refusal.TextKind.{TextKind}
 use Rattle.stars_core.specs.declared.refusal.TextKind.TheVariants as kinds
 use Rattle.stars_core.specs.declared.status.Found.{Found}
@@ -16,13 +21,15 @@ use Rattle.stars_core.specs.declared.status.Status.{Status}
 use Rattle.stars_core.specs.declared.status.Status.TheVariants.{Done, NoPlan, Usage, RulesRefused, CatalogueRefused, QueryRefused, TableRefused, ReadFault, WriteFault, Memory, NotDerived, DerivationRefused, SessionRefused, CertificateRefused}
 use Rattle.stars_core.specs.CommandLine.{CommandLine, Request, command_of, requests_of}
 use Rattle.stars_core.specs.Lines.{refused_status}
-use Rattle.stars_core.specs.Built.{Given}
+use Rattle.stars_core.specs.Given.{Given}
 use Rattle.stars_core.specs.Faults.{Stops, PassAll}
-use Rattle.stars_core.specs.Plan.{Says, PlanText, three}
-use Rattle.stars_core.specs.Shelves.{HeldAs, RefusedAt, PlanAnswered, Puts}
+use Rattle.stars_core.specs.Plan.{HasNoPlan}
+use Rattle.stars_core.specs.ThreeTexts.{Says, AnswerText, three}
+use Rattle.stars_core.specs.Shelves.{HeldAs, RefusedAt, IsAnswered, Puts}
 use Rattle.stars_core.specs.Answers.{OfCommand, Answered, Complete, RefusedExactly, StopTold, LinePut}
 use Rattle.stars_core.proofs.Says.{one_reading}
 use Rattle.stars_core.proofs.FaultLaws.{one_stop, stopped_passes}
+use Rattle.plan_choice.proofs.Laws.{some_listed}
 
 of_command : (words : CommandLine) (command : Command) (P : Command → Type 0) → command_of words ≡ Some command → OfCommand words P → P command
 of_command words command P is of = rw is at of
@@ -109,37 +116,48 @@ moved r r' c c' q q' rules query e f g says =
     subst (λ (x : List ℕ). Says x c' q' rules query) e (subst (λ (x : List ℕ). Says r x q' rules query) f (subst (λ (x : List ℕ). Says r c x rules query) g says))
 
 -- what is answered of told texts is answered of what they say
-same_plan : (files : Files) (words : CommandLine) (r c q : List ℕ) (rules : RuleFile) (query : QueryTree) (found : Found) (text : List ℕ)
-    → HeldAs (Some files) (requests_of Plan words) (three r c q) → Says r c q rules query → PlanAnswered (Some files) (requests_of Plan words) found text → PlanText rules query found text
-same_plan files words r c q rules query found text held says a =
+same_answer : (command : Command) (files : Files) (words : CommandLine) (r c q : List ℕ) (rules : RuleFile) (query : QueryTree) (found : Found) (text : List ℕ)
+    → HeldAs (Some files) (requests_of command words) (three r c q) → Says r c q rules query → IsAnswered command (Some files) (requests_of command words) found text
+    → AnswerText command rules query found text
+same_answer command files words r c q rules query found text held says a =
     let held' = a.3.held in
     let e : r ≡ a.0 = same_bytes files _ r a.0 held.1 held'.1 in
     let f : c ≡ a.1 = same_bytes files _ c a.1 held.2.1 held'.2.1 in
     let g : q ≡ a.2 = same_bytes files _ q a.2 held.2.2.1 held'.2.2.1 in
-    let plans = a.4 in
-    let one = one_reading a.0 a.1 a.2 plans.rules rules plans.query query plans.says (moved r a.0 c a.1 q a.2 rules query e f g says) in
-    subst (λ (x : RuleFile). PlanText x query found text) one.0 (subst (λ (y : QueryTree). PlanText plans.rules y found text) one.1 plans.answer)
+    let is = a.4 in
+    let one = one_reading a.0 a.1 a.2 is.rules rules is.query query is.says (moved r a.0 c a.1 q a.2 rules query e f g says) in
+    subst (λ (x : RuleFile). AnswerText command x query found text) one.0 (subst (λ (y : QueryTree). AnswerText command is.rules y found text) one.1 is.answer)
+
+-- a command that finds something has a plan behind it
+has_plan : (command : Command) (rules : RuleFile) (query : QueryTree) (text : List ℕ) → WellFormedQuery query → IsAccepted rules → AnswerText command rules query Planned text
+    → (d : Deriv) × (v : Props) × IsRoot query rules d v
+has_plan commands.Plan rules query text formed accepted answer = (answer.0, answer.1, answer.2.root)
+has_plan commands.Frontier rules query text formed accepted answer = some_listed query rules formed accepted answer.0 answer.1 answer.2
+
+has_none : (command : Command) (rules : RuleFile) (query : QueryTree) (text : List ℕ) → AnswerText command rules query Unplanned text → HasNoPlan rules query
+has_none commands.Plan rules query text answer = answer.0
+has_none commands.Frontier rules query text answer = answer.0
 
 pub complete : (status : Status) (words : CommandLine) (shelf shelf' : ShelfState) (out out' err err' : SinkState) → Answered status words shelf shelf' out out' err err'
     → Complete status words shelf shelf' out out'
 complete Done words shelf shelf' out out' err err' answered r c q rules query told quiet_shelf quiet_out =
     let a = rw told.listed at answered in
-    let b = subst (λ (x : Option Files). PlanAnswered x (requests_of Plan words) Planned a.2.0) told.told a.2.1 in
-    let p = same_plan told.files words r c q rules query Planned a.2.0 told.held told.says b in
-    inr (inl (refl, p.0, p.1, p.2.root))
+    let b = subst (λ (x : Option Files). IsAnswered told.command x (requests_of told.command words) Planned a.2.0) told.told a.2.1 in
+    let p = same_answer told.command told.files words r c q rules query Planned a.2.0 told.held told.says b in
+    inr (inl (refl, has_plan told.command rules query a.2.0 told.says.formed told.says.accepted p))
 complete NoPlan words shelf shelf' out out' err err' answered r c q rules query told quiet_shelf quiet_out =
     let a = rw told.listed at answered in
-    let b = subst (λ (x : Option Files). PlanAnswered x (requests_of Plan words) Unplanned a.2.0) told.told a.2.1 in
-    let p = same_plan told.files words r c q rules query Unplanned a.2.0 told.held told.says b in
-    inr (inr (refl, p.0))
+    let b = subst (λ (x : Option Files). IsAnswered told.command x (requests_of told.command words) Unplanned a.2.0) told.told a.2.1 in
+    let p = same_answer told.command told.files words r c q rules query Unplanned a.2.0 told.held told.says b in
+    inr (inr (refl, has_none told.command rules query a.2.0 p))
 complete Usage words shelf shelf' out out' err err' answered r c q rules query told quiet_shelf quiet_out =
-    let e : Some Plan ≡ None = sym told.listed ∙ answered.2.0 in absurd cc
+    let e : Some told.command ≡ None = sym told.listed ∙ answered.2.0 in absurd cc
 complete RulesRefused words shelf shelf' out out' err err' answered r c q rules query told quiet_shelf quiet_out =
-    absurd (refused_none kinds.Rules shelf shelf' (requests_of Plan words) answered.1 told.files (three r c q) (rw told.listed at answered.2) told.told told.held told.accepted)
+    absurd (refused_none kinds.Rules shelf shelf' (requests_of told.command words) answered.1 told.files (three r c q) (rw told.listed at answered.2) told.told told.held told.accepted)
 complete CatalogueRefused words shelf shelf' out out' err err' answered r c q rules query told quiet_shelf quiet_out =
-    absurd (refused_none kinds.Catalogue shelf shelf' (requests_of Plan words) answered.1 told.files (three r c q) (rw told.listed at answered.2) told.told told.held told.accepted)
+    absurd (refused_none kinds.Catalogue shelf shelf' (requests_of told.command words) answered.1 told.files (three r c q) (rw told.listed at answered.2) told.told told.held told.accepted)
 complete QueryRefused words shelf shelf' out out' err err' answered r c q rules query told quiet_shelf quiet_out =
-    absurd (refused_none kinds.Query shelf shelf' (requests_of Plan words) answered.1 told.files (three r c q) (rw told.listed at answered.2) told.told told.held told.accepted)
+    absurd (refused_none kinds.Query shelf shelf' (requests_of told.command words) answered.1 told.files (three r c q) (rw told.listed at answered.2) told.told told.held told.accepted)
 complete ReadFault words shelf shelf' out out' err err' answered r c q rules query told quiet_shelf quiet_out =
     let u = rw told.listed at answered.2 in absurd (quiet_shelf u.4.rose)
 complete WriteFault words shelf shelf' out out' err err' answered r c q rules query told quiet_shelf quiet_out =
@@ -154,7 +172,7 @@ complete CertificateRefused words shelf shelf' out out' err err' answered r c q 
 -- what is put out is put of texts that are accepted
 puts_pass : (command : Command) (told : Option Files) (words : CommandLine) (found : Found) (pieces : List (List ℕ)) → Puts command told words found pieces
     → (given : List Given) × HeldAs told (requests_of command words) given × PassAll [] given
-puts_pass Plan told words found pieces puts =
+puts_pass command told words found pieces puts =
     let a = puts.1 in (three a.0 a.1 a.2, a.3.held, a.3.accepted)
 
 stop_none : (words : CommandLine) (shelf : ShelfState) (place : ℕ) (this : Request) (earlier : List Given) (bytes line : List ℕ) (found : Found) (pieces : List (List ℕ))

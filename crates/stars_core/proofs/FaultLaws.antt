@@ -1,7 +1,7 @@
 -- Which fault a text has.
 use Rattle.std.proofs.Common.{subst, ◌≡◌, ◌<◌, ◌≤◌, ◌++◌, ℕ, List, [], ◌∷◌, length, Option, Some, Ok, Err, refl, ap, sym, ◌∙◌, inl, inr, arith}
 use Rattle.std.proofs.lemmas.List.{append-nil, append_assoc}
-use Rattle.star_model.specs.Accepted.{IsAccepted, IsRefusedBy, First as FirstStatement}
+use Rattle.star_model.specs.Accepted.{IsAccepted, IsRefusedBy}
 use Rattle.star_model.specs.declared.faults.RuleFault.{RuleFault}
 use Rattle.star_model.specs.declared.faults.RuleFault.TheVariants as rul
 use Rattle.star_model.specs.declared.rules.RuleFile.{RuleFile}
@@ -21,11 +21,9 @@ use Rattle.catalogue.proofs.Laws as catalogue_laws
 use Rattle.query_graph.proofs.Laws as query_laws
 use Rattle.query_graph.specs.declared.fault.QueryFault.{QueryFault}
 use Rattle.query_graph.specs.Faults as queries
-use Rattle.heap_plan.specs.HeapStars.{OfOtherStar}
-use Rattle.heap_plan.specs.Small.{IsSmall}
-use Rattle.stars_core.specs.Lines.{too_long_line, not_built_line, rules_line, catalogue_line, query_line}
-use Rattle.stars_core.specs.Built.{Given, Over, IsUnbuilt, catalogue_in}
-use Rattle.stars_core.specs.Faults.{Kind, TooLong, Misread, Rejected, NotBuilt, IsMisread, IsRejected, HasFault, First, Clear, Stops, Passes, Verdict, Accepted, Stopped, Judged, faults_of, PassAll}
+use Rattle.stars_core.specs.Lines.{too_long_line, rules_line, catalogue_line, query_line}
+use Rattle.stars_core.specs.Given.{Given, Over, catalogue_in}
+use Rattle.stars_core.specs.Faults.{Kind, TooLong, Misread, Rejected, IsMisread, IsRejected, HasFault, First, Clear, Stops, Passes, Verdict, Accepted, Stopped, Judged, faults_of, PassAll}
 use Rattle.stars_core.specs.declared.refusal.TextKind.{TextKind}
 use Rattle.stars_core.specs.declared.refusal.TextKind.TheVariants.{Rules, Catalogue, Query}
 use Rattle.stars_core.specs.declared.refusal.Refusal.{Refusal}
@@ -67,22 +65,10 @@ one_rejected (Rules, r) a b p q =
 one_rejected (Catalogue, c) a b p q = absurd p
 one_rejected (Query, d) a b p q = absurd p
 
--- two first statements are one
-one_first : (rules : RuleFile) (case : ℕ → Type 0) (k n : ℕ) → FirstStatement rules case k → FirstStatement rules case n → k ≡ n
-one_first rules case k n p q = omega (arith, p.1 n q.0, q.1 k p.0)
-
-one_unbuilt : (earlier : List Given) (this : Given) (a b : List ℕ) → IsUnbuilt earlier this a → IsUnbuilt earlier this b → a ≡ b
-one_unbuilt earlier (Rules, r) a b p q =
-    let first : FirstStatement q.0 (OfOtherStar q.0) p.2 = subst (λ (x : RuleFile). FirstStatement x (OfOtherStar x) p.2) (one_rule_file r p.0 q.0 p.1 q.1) p.3 in
-    p.4 ∙ ap (λ n. not_built_line Rules n) (one_first q.0 (OfOtherStar q.0) p.2 q.2 first q.3) ∙ sym q.4
-one_unbuilt earlier (Catalogue, c) a b p q = absurd p
-one_unbuilt earlier (Query, d) a b p q = p.5 ∙ sym q.5
-
 one_fault : (earlier : List Given) (this : Given) (kind : Kind) (a b : List ℕ) → HasFault earlier this kind a → HasFault earlier this kind b → a ≡ b
 one_fault earlier this TooLong a b p q = p.1 ∙ sym q.1
 one_fault earlier this Misread a b p q = one_misread earlier this a b p q
 one_fault earlier this Rejected a b p q = one_rejected this a b p q
-one_fault earlier this NotBuilt a b p q = one_unbuilt earlier this a b p q
 
 pub one_stop : (earlier : List Given) (this : Given) (a b : List ℕ) → Stops earlier this a → Stops earlier this b → a ≡ b
 one_stop earlier this a b p q = same_first (λ kind l. HasFault earlier this kind l) (faults_of this.0) a b (λ kind l m. one_fault earlier this kind l m) p q
@@ -110,13 +96,9 @@ pub rejected_stops : (earlier : List Given) (this : Given) (line : List ℕ) →
     → ((other : List ℕ) → IsMisread earlier this other → ⊥) → IsRejected this line → Stops earlier this line
 rejected_stops earlier this line size read rejected = inr (not_long earlier this size, inr (read, inl rejected))
 
-pub unbuilt_stops : (earlier : List Given) (this : Given) (line : List ℕ) → length this.1 ≤ 1048576
-    → ((other : List ℕ) → IsMisread earlier this other → ⊥) → ((other : List ℕ) → IsRejected this other → ⊥) → IsUnbuilt earlier this line → Stops earlier this line
-unbuilt_stops earlier this line size read fine unbuilt = inr (not_long earlier this size, inr (read, inr (fine, inl unbuilt)))
-
 passes : (earlier : List Given) (this : Given) → length this.1 ≤ 1048576 → ((other : List ℕ) → IsMisread earlier this other → ⊥)
-    → ((other : List ℕ) → IsRejected this other → ⊥) → ((other : List ℕ) → IsUnbuilt earlier this other → ⊥) → Passes earlier this
-passes earlier this size read fine built = (not_long earlier this size, (read, (fine, (built, tt))))
+    → ((other : List ℕ) → IsRejected this other → ⊥) → Passes earlier this
+passes earlier this size read fine = (not_long earlier this size, (read, (fine, tt)))
 
 -- ---- texts that are accepted
 
@@ -130,10 +112,9 @@ module _ (r : List ℕ) (rules : RuleFile) (reads : rule_files.ReadsRules r (Ok 
 pub rules_pass : (r : List ℕ) (rules : RuleFile) → RulesPass r rules → (earlier : List Given) → Passes earlier (Rules, r)
 rules_pass r rules pass earlier =
     passes earlier (Rules, r) pass.size (not_misread_rules r rules pass.read earlier) (not_rejected r rules pass.read pass.accepted)
-    (λ other p. pass.built p.2 (subst (λ (x : RuleFile). OfOtherStar x p.2) (one_rule_file r p.0 rules p.1 pass.read.spells) p.3.0))
 
 pub catalogue_passes : (c : List ℕ) (catalogue : CatalogueTree) → CataloguePasses c catalogue → (earlier : List Given) → Passes earlier (Catalogue, c)
-catalogue_passes c catalogue pass earlier = passes earlier (Catalogue, c) pass.size (λ other p. pass.read.clear p.0 p.1.has) (λ other p. p) (λ other p. p)
+catalogue_passes c catalogue pass earlier = passes earlier (Catalogue, c) pass.size (λ other p. pass.read.clear p.0 p.1.has) (λ other p. p)
 
 not_misread_query : (catalogue : CatalogueTree) (q : List ℕ) (query : QueryTree) → queries.ReadsQuery catalogue q (Ok query)
     → (earlier : List Given) → Over earlier catalogue → (other : List ℕ) → IsMisread earlier (Query, q) other → ⊥
@@ -143,9 +124,6 @@ not_misread_query catalogue q query read earlier over other p =
 pub query_passes : (catalogue : CatalogueTree) (q : List ℕ) (query : QueryTree) → QueryPasses catalogue q query → (earlier : List Given) → Over earlier catalogue → Passes earlier (Query, q)
 query_passes catalogue q query pass earlier over =
     passes earlier (Query, q) pass.size (not_misread_query catalogue q query pass.read earlier over) (λ other p. p)
-    (λ other p.
-    let spells : SpellsQuery catalogue q p.2 = subst (λ (c : CatalogueTree). SpellsQuery c q p.2) (one_over earlier p.0 catalogue p.1 over) p.3 in
-    p.4 (subst (λ (x : QueryTree). IsSmall x) (one_query catalogue q query p.2 pass.read.spells spells) pass.built))
 
 -- all texts are accepted, and one more
 pub pass_more : (before given : List Given) (this : Given) → PassAll before given → Passes (before ++ given) this → PassAll before (given ++ this ∷ [])
@@ -238,13 +216,6 @@ module _ (r : List ℕ) (size : length r ≤ 1048576) (rules : RuleFile) (reads 
       refuses_map Rules (λ line. (f : RuleFault) × IsRefusedBy rules f × (rules_line f ≡ Some line)) (StopsAlways Rules r) refusal
       (λ line told. λ earlier. rejected_stops earlier (Rules, r) line size (not_misread_rules r rules reads earlier) (rules, reads.spells, reads.formed, told.0, told.1, told.2)) told
 
-  pub unbuilt_rules_refuse : IsAccepted rules → (statement : ℕ) → FirstStatement rules (OfOtherStar rules) statement
-      → (refusal : Refusal) → Refuses Rules (λ line. line ≡ not_built_line Rules statement) refusal → Refuses Rules (StopsAlways Rules r) refusal
-  unbuilt_rules_refuse accepted statement first refusal told =
-      refuses Rules (StopsAlways Rules r) (not_built_line Rules statement) refusal told
-      (λ earlier. unbuilt_stops earlier (Rules, r) _ size (not_misread_rules r rules reads earlier) (not_rejected r rules reads accepted)
-      (rules, reads.spells, statement, first, refl))
-
 -- rules that were read and accepted
 pub checked_reads : (r : List ℕ) (rules checked : RuleFile) → rule_files.ReadsRules r (Ok rules) → RulesChecked rules (Ok checked) → rule_files.ReadsRules r (Ok checked) × IsAccepted checked
 checked_reads r rules checked reads checks =
@@ -284,10 +255,3 @@ misread_query_refuses catalogue q size fault reads refusal told =
     is_first (que.Limit k what) line told reads = reads
     is_first (que.TypeClash p) line told reads = reads
     is_first que.Memory line told reads = absurd cc
-
-pub unbuilt_query_refuses : (catalogue : CatalogueTree) (q : List ℕ) (query : QueryTree) → length q ≤ 1048576 → queries.ReadsQuery catalogue q (Ok query) → (IsSmall query → ⊥)
-    → (refusal : Refusal) → Refuses Query (λ line. line ≡ not_built_line Query 1) refusal → Refuses Query (StopsOver catalogue q) refusal
-unbuilt_query_refuses catalogue q query size read not_small refusal told =
-    refuses Query (StopsOver catalogue q) (not_built_line Query 1) refusal told
-    (λ earlier over. unbuilt_stops earlier (Query, q) _ size (not_misread_query catalogue q query read earlier over) (λ other p. p)
-    (catalogue, over, query, read.spells, not_small, refl))

@@ -7,7 +7,7 @@ use Rattle.spelling.specs.Catalogues.{SpellsCatalogue}
 use Rattle.spelling.specs.Queries.{SpellsQuery}
 use Rattle.spelling.proofs.Laws.{one_rule_file, one_catalogue, one_query, keeps_catalogue}
 use Rattle.stars_core.specs.Judging.{RulesPass, CataloguePasses, QueryPasses}
-use Rattle.stars_core.specs.Plan.{Says}
+use Rattle.stars_core.specs.ThreeTexts.{Says}
 
 pub says : (r c q : List ℕ) (rules : RuleFile) (catalogue : CatalogueTree) (query : QueryTree) → RulesPass r rules → CataloguePasses c catalogue → QueryPasses catalogue q query → Says r c q rules query
 says r c q rules catalogue query by over_text of =

@@ -10,7 +10,7 @@ use Rattle.stars_core.specs.declared.refusal.Refusal.{Refusal}
 use Rattle.stars_core.specs.CommandLine.{three_requests}
 use Rattle.stars_core.specs.Faults.{Stops}
 use Rattle.stars_core.specs.Judging.{Refuses, RulesPass, CataloguePasses, QueryPasses, StopsAlways, StopsOver}
-use Rattle.stars_core.specs.Plan.{three}
+use Rattle.stars_core.specs.ThreeTexts.{three}
 use Rattle.stars_core.specs.Shelves.{Fetched, NotFetched, RanInto}
 use Rattle.stars_core.proofs.Along.{CameAlong, starts, unfetched, stopped, goes_along}
 use Rattle.stars_core.proofs.FaultLaws.{refuses_map, rules_pass, catalogue_passes, query_passes}

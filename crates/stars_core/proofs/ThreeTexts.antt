@@ -6,10 +6,10 @@ use Rattle.star_model.specs.declared.rules.RuleFile.{RuleFile}
 use Rattle.stars_core.specs.declared.refusal.TextKind.TheVariants.{Rules, Catalogue, Query}
 use Rattle.stars_core.specs.declared.refusal.Refusal.{Refusal}
 use Rattle.stars_core.specs.declared.refusal.Refusal.TheVariants.{Usage, Unread, Refused, Memory}
-use Rattle.stars_core.specs.Built.{Over}
+use Rattle.stars_core.specs.Given.{Over}
 use Rattle.stars_core.specs.Faults.{Stops, PassAll}
 use Rattle.stars_core.specs.Judging.{Refuses, RulesPass, CataloguePasses, QueryPasses, StopsAlways, StopsOver}
-use Rattle.stars_core.specs.Plan.{NotPlanned, three}
+use Rattle.stars_core.specs.ThreeTexts.{NotAnswered, three}
 use Rattle.stars_core.proofs.FaultLaws.{rules_pass, catalogue_passes, query_passes}
 
 pub over : (r c : List ℕ) (catalogue : CatalogueTree) → CataloguePasses c catalogue → Over ((Rules, r) ∷ (Catalogue, c) ∷ []) catalogue
@@ -23,19 +23,19 @@ pub query_stops : (r c q : List ℕ) (catalogue : CatalogueTree) → CataloguePa
 query_stops r c q catalogue pass line stops = stops ((Rules, r) ∷ (Catalogue, c) ∷ []) (over r c catalogue pass)
 
 -- the first of the three that is stopped
-pub rules_not : (r c q : List ℕ) (refusal : Refusal) → Refuses Rules (StopsAlways Rules r) refusal → NotPlanned r c q refusal
+pub rules_not : (r c q : List ℕ) (refusal : Refusal) → Refuses Rules (StopsAlways Rules r) refusal → NotAnswered r c q refusal
 rules_not r c q Usage p = p
 rules_not r c q (Unread line) p = p
 rules_not r c q (Refused kind line) p = rw p.0 (p.1 [])
 rules_not r c q Memory p = tt
 
-pub catalogue_not : (r c q : List ℕ) (repertoire : RuleFile) (refusal : Refusal) → RulesPass r repertoire → Refuses Catalogue (StopsAlways Catalogue c) refusal → NotPlanned r c q refusal
+pub catalogue_not : (r c q : List ℕ) (repertoire : RuleFile) (refusal : Refusal) → RulesPass r repertoire → Refuses Catalogue (StopsAlways Catalogue c) refusal → NotAnswered r c q refusal
 catalogue_not r c q repertoire Usage rules p = p
 catalogue_not r c q repertoire (Unread line) rules p = p
 catalogue_not r c q repertoire (Refused kind line) rules p = rw p.0 (rules_pass r repertoire rules [], p.1 ((Rules, r) ∷ []))
 catalogue_not r c q repertoire Memory rules p = tt
 
-pub query_not : (r c q : List ℕ) (repertoire : RuleFile) (catalogue : CatalogueTree) (refusal : Refusal) → RulesPass r repertoire → CataloguePasses c catalogue → Refuses Query (StopsOver catalogue q) refusal → NotPlanned r c q refusal
+pub query_not : (r c q : List ℕ) (repertoire : RuleFile) (catalogue : CatalogueTree) (refusal : Refusal) → RulesPass r repertoire → CataloguePasses c catalogue → Refuses Query (StopsOver catalogue q) refusal → NotAnswered r c q refusal
 query_not r c q repertoire catalogue Usage rules pass p = p
 query_not r c q repertoire catalogue (Unread line) rules pass p = p
 query_not r c q repertoire catalogue (Refused kind line) rules pass p =

@@ -15,7 +15,6 @@ use Rattle.spelling.specs.Tiny.{tiny_lexemes, tiny_rules}
 use Rattle.spelling.proofs.Laws.{tiny_is_spelled}
 use Rattle.star_syntax.specs.Faults.{ReadsRules}
 use Rattle.star_syntax.proofs.Laws.{no_fault, rules_formed}
-use Rattle.heap_plan.specs.HeapStars.{IsHeapStar, HasHeapStars, heap_access_root, heap_join_root}
 use Rattle.stars_core.specs.Judging.{RulesPass}
 use Rattle.stars_core.proofs.LimitsKept.{lexemes_fit, formula_fits, star_fits, Statements, statements_of, none_beyond}
 use Rattle.stars_core.proofs.TinyAccepted.{tiny_accepted}
@@ -87,18 +86,9 @@ within =
 tiny_read : ReadsRules tiny_text (Ok tiny_rules)
 tiny_read = record { spells = spells; formed = rules_formed tiny_text tiny_rules statements.0 spells says within; clear = no_fault tiny_text statements.0 no_text_fault says within }
 
-is_heap_star : (s : StarDef) → Contains tiny_rules.stars s → IsHeapStar s
-unfolding tiny_rules
-is_heap_star s (zero, lt, is) = inl (subst (λ (t : StarDef). t ≡ heap_access_root t.statement) is refl)
-is_heap_star s (suc zero, lt, is) = inr (subst (λ (t : StarDef). t ≡ heap_join_root t.statement) is refl)
-is_heap_star s (suc (suc n), lt, is) = absurd (omega (arith, lt))
-
-heap_stars : HasHeapStars tiny_rules
-heap_stars k case = case.3 (is_heap_star case.0 case.1)
-
 tiny_length : length tiny_text ≤ 1048576
 unfolding tiny_text
 tiny_length = omega arith
 
 pub tiny_passes : RulesPass tiny_text tiny_rules
-tiny_passes = record { size = tiny_length; read = tiny_read; accepted = tiny_accepted; built = heap_stars }
+tiny_passes = record { size = tiny_length; read = tiny_read; accepted = tiny_accepted }

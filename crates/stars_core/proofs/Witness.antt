@@ -31,29 +31,24 @@ use Rattle.query_graph.specs.Faults as queries
 use Rattle.query_graph.proofs.Laws.{accepted_query}
 use Rattle.stars_core.specs.declared.command.Command.{Command}
 use Rattle.stars_core.specs.declared.command.Command.TheVariants.{Plan}
-use Rattle.stars_core.specs.declared.status.Found.TheVariants.{Planned}
 use Rattle.stars_core.specs.declared.status.Status.TheVariants.{Done}
 use Rattle.stars_core.specs.CommandLine.{CommandLine, command_of}
 use Rattle.stars_core.specs.Judging.{CataloguePasses, QueryPasses}
-use Rattle.stars_core.specs.Shelves.{Puts}
-use Rattle.stars_core.specs.Answers.{Answered, AllPut, DoneSays, SomeTold}
+use Rattle.stars_core.specs.Answers.{Answered, DoneSays, SomeTold}
 use Rattle.stars_core.proofs.TinyRules.{tiny_text, tiny_passes}
 use Rattle.stars_core.proofs.ThreeTexts.{three_pass}
 use Rattle.stars_core.proofs.Says.{says}
 
-says_of : (command : Command) (words : CommandLine) (shelf shelf' : ShelfState) (out out' err err' : SinkState) (pieces : List (List ℕ))
-    → Puts command shelf.held words Planned pieces → AllPut pieces out out' err err' → DoneSays out out'
-says_of Plan words shelf shelf' out out' err err' pieces puts all =
-    let a = puts.1 in
-    let b = subst (λ (ps : List (List ℕ)). Adds out.taken (concat ps) out'.taken) puts.2 all.added in
-    (a.0, a.1, a.2, puts.0, a.4, rw append-nil at b)
-
-pub done_says : (words : CommandLine) (shelf shelf' : ShelfState) (out out' err err' : SinkState) → Answered Done words shelf shelf' out out' err err' → DoneSays out out'
+pub done_says : (words : CommandLine) (shelf shelf' : ShelfState) (out out' err err' : SinkState) → Answered Done words shelf shelf' out out' err err' → DoneSays words out out'
 done_says words shelf shelf' out out' err err' answered = at_command (command_of words) refl answered
   where
-    at_command : (command : Option Command) → command_of words ≡ command → Answered Done words shelf shelf' out out' err err' → DoneSays out out'
+    at_command : (command : Option Command) → command_of words ≡ command → Answered Done words shelf shelf' out out' err err' → DoneSays words out out'
     at_command None is a = absurd (rw is at a)
-    at_command (Some command) is a = let b = rw is at a in says_of command words shelf shelf' out out' err err' b.1 b.2 b.3
+    at_command (Some command) is a =
+        let b = rw is at a in
+        let answer = b.2.1 in
+        let added = subst (λ (ps : List (List ℕ)). Adds out.taken (concat ps) out'.taken) b.2.2 b.3.added in
+        rw is (answer.0, answer.1, answer.2, b.2.0, answer.4, rw append-nil at added)
 
 -- ---- three texts
 
@@ -280,7 +275,6 @@ query_passes : QueryPasses catalogue query_text query
 query_passes = record {
   size = omega arith;
   read = accepted_query catalogue query_text selection query_accepted query_says names_known names_once limits_kept query query_means tt query_formed;
-  built = record { formed = query_formed; quantifier = refl; predicates = refl; order = refl; site = refl };
 }
 
 pub some_told : SomeTold
@@ -298,6 +292,7 @@ some_told =
       record {
         files = files;
         told = refl;
+        command = Plan;
         listed = refl;
         held = (refl, refl, (refl, refl, (refl, refl, tt)));
         accepted = three_pass tiny_text catalogue_text query_text tiny_rules catalogue query tiny_passes catalogue_passes query_passes;

@@ -10,7 +10,6 @@ use Rattle.star_model.specs.declared.query.Query.{Query as QueryTree}
 use Rattle.star_model.specs.declared.derivations.Deriv.{Deriv}
 use Rattle.star_model.specs.declared.plans.Props.{Props}
 use Rattle.stars_core.specs.declared.command.Command.{Command}
-use Rattle.stars_core.specs.declared.command.Command.TheVariants.{Plan}
 use Rattle.stars_core.specs.declared.refusal.TextKind.{TextKind}
 use Rattle.stars_core.specs.declared.refusal.TextKind.TheVariants as kinds
 use Rattle.stars_core.specs.declared.status.Found.{Found}
@@ -19,9 +18,9 @@ use Rattle.stars_core.specs.declared.status.Status.{Status}
 use Rattle.stars_core.specs.declared.status.Status.TheVariants.{Done, NoPlan, Usage, RulesRefused, CatalogueRefused, QueryRefused, ReadFault, WriteFault, Memory}
 use Rattle.stars_core.specs.CommandLine.{CommandLine, Request, command_of, requests_of}
 use Rattle.stars_core.specs.Lines.{usage_line, cannot_write, out_of_memory, refused_status}
-use Rattle.stars_core.specs.Built.{Given}
+use Rattle.stars_core.specs.Given.{Given}
 use Rattle.stars_core.specs.Faults.{Stops, PassAll}
-use Rattle.stars_core.specs.Plan.{Says, Plans, three}
+use Rattle.stars_core.specs.ThreeTexts.{Says, IsAnswer, three}
 use Rattle.stars_core.specs.Shelves.{HeldAs, RefusedAt, UnreadAt, Puts}
 
 -- the words are a listed form, and P holds of the command
@@ -84,18 +83,19 @@ Ends rules query status =
     ⊎ ((status ≡ NoPlan) × ((d : Deriv) (v : Props) → IsRoot query rules d v → ⊥))
 
 -- three files that the shelf tells, and what they say
-pub record PlanTold (words : CommandLine) (shelf : ShelfState) (r c q : List ℕ) (rules : RuleFile) (query : QueryTree) : Type 0 where
+pub record AllTold (words : CommandLine) (shelf : ShelfState) (r c q : List ℕ) (rules : RuleFile) (query : QueryTree) : Type 0 where
   pub files : Files
   pub told : shelf.held ≡ Some files
-  pub listed : command_of words ≡ Some Plan
-  pub held : HeldAs (Some files) (requests_of Plan words) (three r c q)
+  pub command : Command
+  pub listed : command_of words ≡ Some command
+  pub held : HeldAs (Some files) (requests_of command words) (three r c q)
   pub accepted : PassAll [] (three r c q)
   pub says : Says r c q rules query
 
 -- Where three files are told that say something, and nothing fails, planning ends.
 abbrev pub Complete : Status → CommandLine → ShelfState → ShelfState → SinkState → SinkState → Type 0
 Complete status words shelf shelf' out out' =
-    (r c q : List ℕ) (rules : RuleFile) (query : QueryTree) → PlanTold words shelf r c q rules query
+    (r c q : List ℕ) (rules : RuleFile) (query : QueryTree) → AllTold words shelf r c q rules query
     → (Rose shelf.faults shelf'.faults → ⊥) → (Rose out.faults out'.faults → ⊥)
     → (status ≡ Memory) ⊎ Ends rules query status
 
@@ -123,10 +123,11 @@ abbrev pub calls_of : CommandLine → Option Command → ℕ
 calls_of words None = 0
 calls_of words (Some command) = length (requests_of command words)
 
--- what a run that is done put out is a plan of the least cost of what some texts say
-abbrev pub DoneSays : SinkState → SinkState → Type 0
-DoneSays out out' = (r : List ℕ) × (c : List ℕ) × (q : List ℕ) × (text : List ℕ) × Plans r c q Planned text × Adds out.taken text out'.taken
+-- what a run that is done put out is the command's answer of what some texts say
+abbrev pub DoneSays : CommandLine → SinkState → SinkState → Type 0
+DoneSays words out out' = OfCommand words (λ command.
+    (r : List ℕ) × (c : List ℕ) × (q : List ℕ) × (text : List ℕ) × IsAnswer command r c q Planned text × Adds out.taken text out'.taken)
 
 -- there are files of which completeness speaks
 abbrev pub SomeTold : Type 0
-SomeTold = (words : CommandLine) × (shelf : ShelfState) × (r : List ℕ) × (c : List ℕ) × (q : List ℕ) × (rules : RuleFile) × (query : QueryTree) × PlanTold words shelf r c q rules query
+SomeTold = (words : CommandLine) × (shelf : ShelfState) × (r : List ℕ) × (c : List ℕ) × (q : List ℕ) × (rules : RuleFile) × (query : QueryTree) × AllTold words shelf r c q rules query

@@ -1,10 +1,10 @@
 -- The listed forms of a command line, and the files that each command asks for.
-use Rattle.std.specs.Prelude.{ℕ, Bool, false, ◌==◌, ◌&&◌, List, [], ◌∷◌, length, map, Option, None, Some, slice_index_or, if◌then◌else◌, codes, String, string_bytes}
+use Rattle.std.specs.Prelude.{ℕ, Bool, false, ◌==◌, List, [], ◌∷◌, length, map, Option, None, Some, slice_index_or, if◌then◌else◌, codes, String, string_bytes}
 use Rattle.std.specs.List.{list_any}
 use Rattle.std.specs.Str.{bytes_eq}
 use Rattle.std.specs.declared.alloc.Global.{Global}
 use Rattle.stars_core.specs.declared.command.Command.{Command}
-use Rattle.stars_core.specs.declared.command.Command.TheVariants.{Plan}
+use Rattle.stars_core.specs.declared.command.Command.TheVariants.{Plan, Frontier}
 use Rattle.stars_core.specs.declared.refusal.TextKind.{TextKind}
 use Rattle.stars_core.specs.declared.refusal.TextKind.TheVariants.{Rules, Catalogue, Query}
 
@@ -19,10 +19,14 @@ abbrev pub begins_dash : List ℕ → Bool
 begins_dash [] = false
 begins_dash (b ∷ bytes) = b == 45
 
--- plan RULES CATALOGUE QUERY
+-- the command of this name
+abbrev pub named : List ℕ → Option Command
+named word = if bytes_eq word (codes "plan") then Some Plan else if bytes_eq word (codes "frontier") then Some Frontier else None
+
+-- plan RULES CATALOGUE QUERY, and frontier of the same
 abbrev pub listed : CommandLine → Option Command
 listed [] = None
-listed (word ∷ names) = if bytes_eq word (codes "plan") && length names == 3 then Some Plan else None
+listed (word ∷ names) = if length names == 3 then named word else None
 
 -- no word begins with a dash, and the words are a command and its names
 abbrev pub command_of : CommandLine → Option Command
@@ -40,4 +44,4 @@ three_requests rules catalogue query = (Rules, rules) ∷ (Catalogue, catalogue)
 
 -- the files that a command asks for, in order
 abbrev pub requests_of : Command → CommandLine → List Request
-requests_of Plan words = three_requests (word_at words 1) (word_at words 2) (word_at words 3)
+requests_of command words = three_requests (word_at words 1) (word_at words 2) (word_at words 3)

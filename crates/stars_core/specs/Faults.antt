@@ -15,17 +15,16 @@ use Rattle.query_graph.specs.Faults as queries
 use Rattle.stars_core.specs.declared.refusal.TextKind.{TextKind}
 use Rattle.stars_core.specs.declared.refusal.TextKind.TheVariants.{Rules, Catalogue, Query}
 use Rattle.stars_core.specs.Lines.{too_long_line, rules_line, catalogue_line, query_line}
-use Rattle.stars_core.specs.Built.{Given, Over, IsUnbuilt}
+use Rattle.stars_core.specs.Given.{Given, Over}
 
 pub data Kind : Type 0 where
   TooLong : Kind
   Misread : Kind
   Rejected : Kind
-  NotBuilt : Kind
 
 -- the kinds of fault that a text may have, in the order in which they are judged
 abbrev pub faults_of : TextKind → List Kind
-faults_of kind = TooLong ∷ Misread ∷ Rejected ∷ NotBuilt ∷ []
+faults_of kind = TooLong ∷ Misread ∷ Rejected ∷ []
 
 -- the first of the faults that the text's reader finds, and the line that tells it
 abbrev pub IsMisread : List Given → Given → List ℕ → Type 0
@@ -46,7 +45,6 @@ abbrev pub HasFault : List Given → Given → Kind → List ℕ → Type 0
 HasFault earlier this TooLong line = (1048576 < length this.1) × (line ≡ too_long_line this.0)
 HasFault earlier this Misread line = IsMisread earlier this line
 HasFault earlier this Rejected line = IsRejected this line
-HasFault earlier this NotBuilt line = IsUnbuilt earlier this line
 
 -- the first kind of fault that it has
 abbrev pub First : (Kind → List ℕ → Type 0) → List Kind → List ℕ → Type 0

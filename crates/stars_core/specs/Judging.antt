@@ -8,14 +8,12 @@ use Rattle.star_model.specs.declared.rules.RuleFile.{RuleFile}
 use Rattle.star_syntax.specs.Faults as rule_files
 use Rattle.catalogue.specs.Faults as catalogues
 use Rattle.query_graph.specs.Faults as queries
-use Rattle.heap_plan.specs.HeapStars.{HasHeapStars}
-use Rattle.heap_plan.specs.Small.{IsSmall}
 use Rattle.stars_core.specs.declared.refusal.TextKind.{TextKind}
 use Rattle.stars_core.specs.declared.refusal.TextKind.TheVariants.{Rules, Catalogue, Query}
 use Rattle.stars_core.specs.declared.refusal.Refusal.{Refusal}
 use Rattle.stars_core.specs.declared.refusal.Refusal.TheVariants.{Usage, Unread, Refused, Memory}
 use Rattle.stars_core.specs.Lines.{too_long_line, rules_line}
-use Rattle.stars_core.specs.Built.{Given, Over}
+use Rattle.stars_core.specs.Given.{Given, Over}
 use Rattle.stars_core.specs.Faults.{Stops}
 
 -- a refusal of a text of this kind, whose line is as P says, or want of memory
@@ -30,23 +28,21 @@ abbrev pub SizeJudged : {A : Type 0} → TextKind → List ℕ → Result A Refu
 SizeJudged kind bytes (Ok done) = length bytes ≤ 1048576
 SizeJudged kind bytes (Err refusal) = Refuses kind (λ line. (1048576 < length bytes) × (line ≡ too_long_line kind)) refusal
 
--- the text says these rules, which are accepted and have a planner
+-- the text says these rules, which are accepted
 pub record RulesPass (r : List ℕ) (rules : RuleFile) : Type 0 where
   pub size : length r ≤ 1048576
   pub read : rule_files.ReadsRules r (Ok rules)
   pub accepted : IsAccepted rules
-  pub built : HasHeapStars rules
 
 -- the text says this catalogue
 pub record CataloguePasses (c : List ℕ) (catalogue : CatalogueTree) : Type 0 where
   pub size : length c ≤ 1048576
   pub read : catalogues.ReadsCatalogue c (Ok catalogue)
 
--- the text says this query, which has a planner
+-- the text says this query
 pub record QueryPasses (catalogue : CatalogueTree) (q : List ℕ) (query : QueryTree) : Type 0 where
   pub size : length q ≤ 1048576
   pub read : queries.ReadsQuery catalogue q (Ok query)
-  pub built : IsSmall query
 
 -- the text is stopped with this line, whatever stands before it
 abbrev pub StopsAlways : TextKind → List ℕ → List ℕ → Type 0

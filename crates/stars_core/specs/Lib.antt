@@ -1,8 +1,10 @@
 pub mod CommandLine
 pub mod Lines
-pub mod Built
+pub mod Given
 pub mod Faults
 pub mod Judging
 pub mod Plan
+pub mod Frontier
+pub mod ThreeTexts
 pub mod Shelves
 pub mod Answers

@@ -39,9 +39,6 @@ statement_line kind statement said = prefix kind ++ codes "statement " ++ decima
 abbrev pub too_deep_line : TextKind → ℕ → List ℕ
 too_deep_line kind statement = statement_line kind statement (codes "is too deep")
 
-abbrev pub not_built_line : TextKind → ℕ → List ℕ
-not_built_line kind statement = statement_line kind statement (codes "is not built yet")
-
 abbrev pub syntax_line : TextKind → ℕ → List ℕ
 syntax_line kind statement = statement_line kind statement (codes "is not understood")
 

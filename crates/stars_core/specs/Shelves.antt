@@ -9,12 +9,11 @@ use Rattle.stars_core.specs.declared.refusal.Refusal.TheVariants.{Usage, Unread,
 use Rattle.stars_core.specs.declared.status.Found.{Found}
 use Rattle.stars_core.specs.declared.answer.Answer.{Answer}
 use Rattle.stars_core.specs.declared.command.Command.{Command}
-use Rattle.stars_core.specs.declared.command.Command.TheVariants.{Plan}
 use Rattle.stars_core.specs.CommandLine.{Request, CommandLine, requests_of}
 use Rattle.stars_core.specs.Lines.{cannot_read, too_long_line}
-use Rattle.stars_core.specs.Built.{Given}
+use Rattle.stars_core.specs.Given.{Given}
 use Rattle.stars_core.specs.Faults.{Stops, PassAll}
-use Rattle.stars_core.specs.Plan.{Plans, three}
+use Rattle.stars_core.specs.ThreeTexts.{IsAnswer, three}
 
 -- These are texts of what is asked for, and those that the shelf holds, where it tells.
 abbrev pub HeldAs : Option Files → List Request → List Given → Type 0
@@ -73,23 +72,20 @@ pub record Texts (told : Option Files) (requests : List Request) (r c q : List �
   pub held : HeldAs told requests (three r c q)
   pub accepted : PassAll [] (three r c q)
 
-abbrev pub PlanAnswered : Option Files → List Request → Found → List ℕ → Type 0
-PlanAnswered told requests found text = (r : List ℕ) × (c : List ℕ) × (q : List ℕ) × Texts told requests r c q × Plans r c q found text
+-- three requests stand for texts that are accepted, and this is the command's answer of what they say
+abbrev pub IsAnswered : Command → Option Files → List Request → Found → List ℕ → Type 0
+IsAnswered command told requests found text = (r : List ℕ) × (c : List ℕ) × (q : List ℕ) × Texts told requests r c q × IsAnswer command r c q found text
 
 -- what a command puts out, piece by piece
 abbrev pub Puts : Command → Option Files → CommandLine → Found → List (List ℕ) → Type 0
-Puts Plan told words found pieces = (text : List ℕ) × PlanAnswered told (requests_of Plan words) found text × (pieces ≡ text ∷ [])
+Puts command told words found pieces = (text : List ℕ) × IsAnswered command told (requests_of command words) found text × (pieces ≡ text ∷ [])
 
--- a plan was made of three files, or why not
-abbrev pub PlanRan : ShelfState → ShelfState → List Request → Result Answer Refusal → Type 0
-PlanRan before now requests (Ok answer) = NoFault before now × PlanAnswered before.held requests answer.found answer.text.items
-PlanRan before now requests (Err refusal) = RanInto before now requests refusal
-
--- what a command made of its shelf
-abbrev pub Ran : Command → ShelfState → ShelfState → CommandLine → Result Answer Refusal → Type 0
-Ran Plan before now words result = PlanRan before now (requests_of Plan words) result
+-- the command's answer was made of three files, or why not
+abbrev pub Ran : Command → ShelfState → ShelfState → List Request → Result Answer Refusal → Type 0
+Ran command before now requests (Ok answer) = NoFault before now × IsAnswered command before.held requests answer.found answer.text.items
+Ran command before now requests (Err refusal) = RanInto before now requests refusal
 
 -- what the words made of the shelf
 abbrev pub Composed : ShelfState → ShelfState → CommandLine → Option Command → Result Answer Refusal → Type 0
 Composed before now words None result = (now ≡ before) × (result ≡ Err Usage)
-Composed before now words (Some command) result = GoesBy (length (requests_of command words)) before now × Ran command before now words result
+Composed before now words (Some command) result = GoesBy (length (requests_of command words)) before now × Ran command before now (requests_of command words) result

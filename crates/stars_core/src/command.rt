@@ -1,19 +1,31 @@
 // The command that the words of a command line give.
 ghost use Rattle.std.specs.Prelude.{◌≡◌, ◌+◌, ◌<◌, length, IfSome, string_bytes};
 ghost use Rattle.std.specs.List.{list_any};
-ghost use Rattle.stars_core.specs.CommandLine.{begins_dash, listed, command_of, bytes_of, requests_of, word_at};
+ghost use Rattle.stars_core.specs.CommandLine.{begins_dash, named, listed, command_of, bytes_of, requests_of, word_at};
 
 /// A command of the program.
 #[derive(Clone, Copy, Debug, PartialEq, Eq)]
 pub enum Command {
     /// `plan RULES CATALOGUE QUERY` puts the cheapest plan with its derivation and cost.
     Plan,
+    /// `frontier RULES CATALOGUE QUERY` puts a line for each vector of the query's goal to which no other is better.
+    Frontier,
 }
 
 fn begins_dash(word: &str) -> bool
     ensures { result ≡ begins_dash word.now }
 {
     matches!(word.as_bytes(), [b'-', ..])
+}
+
+fn named(word: &str) -> Option<Command>
+    ensures { result ≡ named word.now }
+{
+    match word {
+        "plan" => Some(Command::Plan),
+        "frontier" => Some(Command::Frontier),
+        _ => None,
+    }
 }
 
 fn listed(words: &[String]) -> Option<Command>
@@ -23,12 +35,7 @@ fn listed(words: &[String]) -> Option<Command>
     match words {
         [] => None,
         [word, names @ ..] => {
-            let word = word.as_str();
-            if word == "plan" && names.len() == 3 {
-                Some(Command::Plan)
-            } else {
-                None
-            }
+            if names.len() == 3 { named(word.as_str()) } else { None }
         }
     }
 }

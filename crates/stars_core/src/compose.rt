@@ -2,25 +2,27 @@
 ghost use Rattle.std.specs.Prelude.{◌≡◌, [], ◌∷◌};
 ghost use Rattle.stars_core.specs.CommandLine.{bytes_of, command_of, three_requests};
 ghost use Rattle.sb_outside.specs.Shelf.{GoesBy};
-ghost use Rattle.stars_core.specs.Shelves.{Composed, PlanRan};
+ghost use Rattle.stars_core.specs.Shelves.{Composed, Ran};
 
 use crate::command::{find_command, word_at};
 use crate::read::fetch;
 use crate::{
-    Answer, Command, Refusal, TextKind, judge_catalogue, judge_query, judge_rules, plan_query,
+    Answer, Command, Refusal, TextKind, answer_query, judge_catalogue, judge_query, judge_rules,
 };
 use sb_outside::Shelf;
 use std::alloc::Global;
 
-fn plan<S: Shelf>(
+// What the command puts out for three files.
+fn answer<S: Shelf>(
     alloc: Global,
+    command: Command,
     shelf: &mut S,
     rules: &str,
     catalogue: &str,
     query: &str,
 ) -> Result<Answer, Refusal>
     ensures goes { GoesBy 3 (S.state shelf.old) (S.state shelf.new) }
-    ensures ran { PlanRan (S.state shelf.old) (S.state shelf.new) (three_requests rules.now catalogue.now query.now) result }
+    ensures ran { Ran command (S.state shelf.old) (S.state shelf.new) (three_requests rules.now catalogue.now query.now) result }
 {
     let rule_text = fetch(alloc, shelf, TextKind::Rules, rules)?;
     let repertoire = judge_rules(alloc, rule_text.as_slice())?;
@@ -28,7 +30,7 @@ fn plan<S: Shelf>(
     let tree = judge_catalogue(alloc, catalogue_text.as_slice())?;
     let query_text = fetch(alloc, shelf, TextKind::Query, query)?;
     let selection = judge_query(alloc, &tree, query_text.as_slice())?;
-    let answer = plan_query(alloc, &repertoire, &selection)?;
+    let answer = answer_query(alloc, command, &repertoire, &selection)?;
     Ok(answer)
 }
 
@@ -38,8 +40,9 @@ pub fn compose<S: Shelf>(alloc: Global, words: &[String], shelf: &mut S) -> Resu
 {
     match find_command(words) {
         None => Err(Refusal::Usage),
-        Some(Command::Plan) => plan(
+        Some(command) => answer(
             alloc,
+            command,
             shelf,
             word_at(words, 1),
             word_at(words, 2),

@@ -2,15 +2,14 @@
 ghost use Rattle.std.specs.Prelude.{◌≡◌, ◌≤◌, length, Some};
 ghost use Rattle.star_model.specs.WellFormed.{WellFormedCatalogue};
 ghost use Rattle.spelling.specs.RuleLimits.{WellFormedRules};
-ghost use Rattle.stars_core.specs.Lines.{not_built_line, rules_line, catalogue_line, query_line};
+ghost use Rattle.stars_core.specs.Lines.{rules_line, catalogue_line, query_line};
 ghost use Rattle.stars_core.specs.Judging.{Refuses, SizeJudged, RulesRead, RulesChecked, JudgedRules, JudgedCatalogue, JudgedQuery};
 
-use crate::lines::{catalogue_line, not_built_line, query_line, too_long_line};
+use crate::lines::{catalogue_line, query_line, too_long_line};
 use crate::read::LIMIT;
 use crate::rule_lines::rules_line;
 use crate::{Refusal, TextKind};
 use catalogue::{CatFault, read_catalogue};
-use heap_plan::{first_other_star, is_small};
 use query_graph::{QueryFault, read_query};
 use star_check::{CheckedRules, check_rules};
 use star_model::catalogue::Catalogue;
@@ -28,16 +27,6 @@ fn check_size(alloc: Global, kind: TextKind, bytes: &[u8]) -> Result<(), Refusal
         return Err(Refusal::Refused(kind, too_long_line(alloc, kind)?));
     }
     Ok(())
-}
-
-// The refusal of a text for a statement that has no planner, by its number from 1.
-fn unbuilt(alloc: Global, kind: TextKind, statement: u32) -> Refusal
-    ensures { Refuses kind (λ line. line ≡ not_built_line kind statement) result }
-{
-    match not_built_line(alloc, kind, statement) {
-        Ok(line) => Refusal::Refused(kind, line),
-        Err(_) => Refusal::Memory,
-    }
 }
 
 fn refused_rules(alloc: Global, fault: RuleFault) -> Refusal
@@ -89,17 +78,14 @@ fn check(alloc: Global, rules: RuleFile) -> Result<CheckedRules, Refusal>
     }
 }
 
-/// The rules that a text says, or its first fault. Rules that pass are accepted and have a planner.
+/// The rules that a text says, or its first fault. Rules that pass are accepted.
 pub fn judge_rules(alloc: Global, bytes: &[u8]) -> Result<CheckedRules, Refusal>
     ensures { JudgedRules bytes.now result }
 {
     check_size(alloc, TextKind::Rules, bytes)?;
     let rules = read(alloc, bytes)?;
     let rules = check(alloc, rules)?;
-    match first_other_star(rules.rules()) {
-        None => Ok(rules),
-        Some(statement) => Err(unbuilt(alloc, TextKind::Rules, statement)),
-    }
+    Ok(rules)
 }
 
 /// The catalogue that a text says, or its first fault.
@@ -113,19 +99,14 @@ pub fn judge_catalogue(alloc: Global, bytes: &[u8]) -> Result<Catalogue, Refusal
     }
 }
 
-/// The query over a catalogue that a text says, or its first fault. One that passes has a planner.
+/// The query over a catalogue that a text says, or its first fault.
 pub fn judge_query(alloc: Global, catalogue: &Catalogue, bytes: &[u8]) -> Result<Query, Refusal>
     requires { WellFormedCatalogue catalogue.now }
     ensures { JudgedQuery catalogue.now bytes.now result }
 {
     check_size(alloc, TextKind::Query, bytes)?;
     match read_query(alloc, catalogue, bytes) {
-        Ok(query) => {
-            if !is_small(&query) {
-                return Err(unbuilt(alloc, TextKind::Query, 1));
-            }
-            Ok(query)
-        }
+        Ok(query) => Ok(query),
         Err(fault) => Err(misread_query(alloc, fault)),
     }
 }

@@ -5,9 +5,9 @@ ghost use Rattle.sb_outside.specs.Sink.{SinkState};
 ghost use Rattle.star_model.specs.declared.rules.RuleFile.{RuleFile};
 ghost use Rattle.star_model.specs.declared.query.Query.{Query};
 ghost use Rattle.stars_core.specs.CommandLine.{CommandLine};
-ghost use Rattle.stars_core.specs.Built.{Given};
+ghost use Rattle.stars_core.specs.Given.{Given};
 ghost use Rattle.stars_core.specs.Faults.{Verdict, Judged};
-ghost use Rattle.stars_core.specs.Plan.{Says};
+ghost use Rattle.stars_core.specs.ThreeTexts.{Says};
 ghost use Rattle.stars_core.specs.Answers.{Answered, DoneSays, SomeTold};
 
 use crate::Status;
@@ -22,9 +22,9 @@ pub fn one_reading()
     ensures { (r c q : List ℕ) (a b : RuleFile) (x y : Query) → Says r c q a x → Says r c q b y → (a ≡ b) × (x ≡ y) }
 {}
 
-/// Where a run is done, told or not, some texts say something, and what was put out is a plan of the least cost for it.
+/// Where a run is done, told or not, some texts say something, and what was put out is the command's answer of it.
 pub fn done_says()
-    ensures { (words : CommandLine) (shelf shelf' : ShelfState) (out out' err err' : SinkState) → Answered Status.Done words shelf shelf' out out' err err' → DoneSays out out' }
+    ensures { (words : CommandLine) (shelf shelf' : ShelfState) (out out' err err' : SinkState) → Answered Status.Done words shelf shelf' out out' err err' → DoneSays words out out' }
 {}
 
 /// There are files of which completeness speaks.

@@ -2,8 +2,10 @@
 #![tactic(auto)]
 
 mod answer;
+mod answering;
 mod command;
 mod compose;
+mod frontier;
 mod judging;
 mod laws;
 mod lines;
@@ -16,11 +18,13 @@ mod texts;
 mod top;
 
 pub use answer::Answer;
+pub use answering::answer_query;
 pub use command::{Command, find_command};
 pub use judging::{judge_catalogue, judge_query, judge_rules};
 pub use laws::{done_says, one_reading, one_verdict, some_plan_is_told};
+pub use frontier::frontier_query;
 pub use plan::plan_query;
 pub use refusal::{Refusal, TextKind};
 pub use status::{Found, Status};
-pub use texts::plan_texts;
+pub use texts::answer_texts;
 pub use top::stars;

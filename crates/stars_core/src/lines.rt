@@ -1,6 +1,6 @@
 // The lines that tell the faults of a text.
 ghost use Rattle.std.specs.Prelude.{◌≡◌, ◌++◌, IfOk, Some, codes, string_bytes};
-ghost use Rattle.stars_core.specs.Lines.{prefix, too_long_line, lexical_line, statement_line, not_built_line, unknown_line, twice_line, limit_word, limit_line, clash_line, catalogue_line, query_line};
+ghost use Rattle.stars_core.specs.Lines.{prefix, too_long_line, lexical_line, statement_line, unknown_line, twice_line, limit_word, limit_line, clash_line, catalogue_line, query_line};
 
 use crate::TextKind;
 use catalogue::CatFault;
@@ -46,12 +46,6 @@ pub fn statement_line(
     line.push_str(said)?;
     line.push_str("\n")?;
     Ok(line)
-}
-
-pub fn not_built_line(alloc: Global, kind: TextKind, statement: u32) -> Result<String, AllocError>
-    ensures { IfOk result (λ line. string_bytes line ≡ not_built_line kind statement) }
-{
-    statement_line(alloc, kind, statement, "is not built yet")
 }
 
 pub fn unknown_line(alloc: Global, kind: TextKind, statement: u32) -> Result<String, AllocError>

@@ -1,14 +1,16 @@
 // The text of a least plan.
 ghost use Rattle.std.specs.Prelude.{◌≡◌, ◌++◌, IfOk, string_bytes};
-ghost use Rattle.heap_plan.specs.HeapStars.{HasHeapStars};
-ghost use Rattle.heap_plan.specs.Small.{IsSmall};
+ghost use Rattle.star_model.specs.WellFormed.{WellFormedQuery};
+ghost use Rattle.lolepop.specs.Derived.{vector_of};
 ghost use Rattle.spelling.specs.Derivations.{canonical};
-ghost use Rattle.stars_core.specs.Plan.{PlanText, numbers_line_of};
+ghost use Rattle.stars_core.specs.Plan.{PlanText, numbers_line_of, numbers_line, no_plan};
+ghost use Rattle.stars_core.specs.declared.status.Found.TheVariants.{Planned, Unplanned};
 
 use crate::{Answer, Found};
 use derivation_print::print_derivation;
-use heap_plan::{LeastPlan, least_plan};
+use lolepop::Best;
 use star_check::CheckedRules;
+use star_expand::best;
 use star_model::query::Query;
 use std::alloc::{AllocError, Global};
 
@@ -23,26 +25,44 @@ fn numbers_line(alloc: Global, cost: u64, rescan: u64, card: u64) -> Result<Stri
     Ok(line)
 }
 
-fn plan_text(alloc: Global, plan: &LeastPlan) -> Result<Vec<u8>, AllocError>
-    ensures { IfOk result (λ text. text.items ≡ numbers_line_of plan.now.cost plan.now.rescan plan.now.card ++ canonical plan.now.deriv) }
+// The numbers of a plan, and its derivation.
+fn plan_text(alloc: Global, plan: &Best) -> Result<Vec<u8>, AllocError>
+    ensures { IfOk result (λ text. text.items ≡ numbers_line (vector_of plan.now) ++ canonical plan.now.deriv) }
 {
-    let line = numbers_line(alloc, plan.cost.get(), plan.rescan.get(), plan.card.get())?;
+    let props = plan.node.props();
+    let line = numbers_line(
+        alloc,
+        props.cost.get(),
+        props.rescan.get(),
+        props.card.get(),
+    )?;
     let derivation = print_derivation(alloc, &plan.deriv)?;
     let mut text = line.into_bytes();
     text.extend_from_slice(derivation.as_slice())?;
     Ok(text)
 }
 
+/// The answer where the rules derive no plan.
+pub fn unplanned(alloc: Global) -> Result<Answer, AllocError>
+    ensures { IfOk result (λ answer. (answer.found ≡ Unplanned) × (answer.text.items ≡ no_plan)) }
+{
+    let line = format!(in alloc; "no plan\n")?;
+    Ok(Answer {
+        found: Found::Unplanned,
+        text: line.into_bytes(),
+    })
+}
+
 /// How planning of a query by rules ends, and the text that tells it.
 pub fn plan_query(alloc: Global, rules: &CheckedRules, query: &Query) -> Result<Answer, AllocError>
-    requires rules { HasHeapStars rules.now }
-    requires query { IsSmall query.now }
+    requires { WellFormedQuery query.now }
     ensures { IfOk result (λ answer. PlanText rules.now query.now answer.found answer.text.items) }
 {
-    let plan = least_plan(alloc, rules, query)?;
-    let text = plan_text(alloc, &plan)?;
-    Ok(Answer {
-        found: Found::Planned,
-        text,
-    })
+    match best(alloc, rules, query)? {
+        Some(plan) => Ok(Answer {
+            found: Found::Planned,
+            text: plan_text(alloc, &plan)?,
+        }),
+        None => unplanned(alloc),
+    }
 }

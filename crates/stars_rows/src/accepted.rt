@@ -1,6 +1,6 @@
 // Rule files, catalogues and queries that have a plan.
 use crate::runs::plan;
-use crate::texts::{DERIVATION, SELECTION, STAFF, TABLE, TINY};
+use crate::texts::{DERIVATION, SELECTION, STAFF, STANDARD, TABLE, TINY};
 use std::alloc::{AllocError, Global};
 use std::test::Fail;
 
@@ -74,6 +74,43 @@ fn plans_queries_of_one_table(rt: HostRuntime) -> Result<(), Fail> {
         let wanted = planned(alloc, numbers)?;
         assert_eq!(rt; told.as_str(), wanted.as_str(), "{row}");
     }
+    Ok(())
+}
+
+// Other queries, and what is printed for them by the smallest rules, which apply no predicate and join no tables.
+const FURTHER: &str = "select e.id from emp e where e.dno = 3; => NoPlan => no plan
+select e.id from emp e, dept d; => NoPlan => no plan
+select e.id, d.city from dept d, emp e where e.dno = d.id; => NoPlan => no plan
+select e.id from emp e order by e.id; => Done => # cost 6000 rescan 6000 card 1000¶glue sort;¶goal {1} pushed {};¶ref AccessRoot 1;¶ACCESS_HEAP;
+select e.id from emp e at hq; => Done => # cost 2000 rescan 2000 card 1000¶glue;¶goal {1} pushed {};¶ref AccessRoot 1;¶ACCESS_HEAP;";
+
+#[test]
+fn answers_further_queries(rt: HostRuntime) -> Result<(), Fail> {
+    let alloc = rt.alloc();
+    for row in FURTHER.lines() {
+        let (query, rest) = row.split_once(" => ").ok_or("no status")?;
+        let (status, text) = rest.split_once(" => ").ok_or("no text")?;
+        let told = plan(alloc, TINY, STAFF, query)?;
+        let text = text.replace(alloc, "¶", "\n")?;
+        let wanted = format!(in alloc; "{status}, calls 3\nout: {text}\n\nerr: ")?;
+        assert_eq!(rt; told.as_str(), wanted.as_str(), "{row}");
+    }
+    Ok(())
+}
+
+// The index has the column that is selected.
+#[test]
+fn plans_by_the_standard_rules(rt: HostRuntime) -> Result<(), Fail> {
+    let told = plan(rt.alloc(), STANDARD, STAFF, "select e.id from emp e;")?;
+    let wanted = "Done, calls 3
+out: # cost 1210 rescan 1210 card 1000
+glue;
+goal {1} pushed {};
+ref AccessRoot 2 1;
+ACCESS_INDEX;
+
+err: ";
+    assert_eq!(rt; told.as_str(), wanted);
     Ok(())
 }
 

@@ -1,7 +1,7 @@
 // Words that are no command, shelves and sinks that fail, statuses by their numbers, and the call over three texts.
 use crate::runs::{Faults, NO_FAULTS, run};
 use crate::texts::{DERIVATION, SELECTION, TABLE, TINY};
-use stars_core::{Answer, Refusal, Status, plan_texts};
+use stars_core::{Answer, Command, Refusal, Status, answer_texts};
 use std::alloc::{AllocError, Global};
 use std::test::Fail;
 
@@ -23,6 +23,8 @@ fn tells_usage(rt: HostRuntime) -> Result<(), Fail> {
         "plan r",
         "plan r c",
         "plan r c q q",
+        "frontier r c",
+        "frontiers r c q",
         "PLAN r c q",
         "r c q plan",
         "-plan r c q",
@@ -49,6 +51,7 @@ fn tells_what_it_cannot_read(rt: HostRuntime) -> Result<(), Fail> {
         ("plan a-b c q", 0, 1, "a-b"),
         ("plan r  q", 0, 2, ""),
         ("plan r c R", 0, 3, "R"),
+        ("frontier r c q", 2, 2, "c"),
     ];
     for (line, call, calls, name) in rows {
         let faults = Faults { call, ..NO_FAULTS };
@@ -209,8 +212,9 @@ fn plans_three_texts(rt: HostRuntime) -> Result<(), Fail> {
         ),
     ];
     for (rules, catalogue, query, wanted) in rows {
-        let answer = plan_texts(
+        let answer = answer_texts(
             alloc,
+            Command::Plan,
             rules.as_bytes(),
             catalogue.as_bytes(),
             query.as_bytes(),

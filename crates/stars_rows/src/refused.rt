@@ -1,6 +1,6 @@
 // Rule files, catalogues and queries that are refused, each by its first fault. The crate `text_rows` has the rows of all the faults.
 use crate::runs::{NO_FAULTS, plan, run};
-use crate::texts::{DERIVATION, SELECTION, STAFF, STANDARD, TABLE, TINY, lengthened};
+use crate::texts::{DERIVATION, SELECTION, STAFF, TABLE, TINY, lengthened};
 use std::test::Fail;
 
 // Rule files alone.
@@ -22,10 +22,7 @@ const CHANGES: &str = "rescan SHIP => rescan GET => no formula for SHIP
 cost1 + 4 * card1 => 5 + (cost1 - cost1) => cost of SORT is not monotone at node 3
 rescan STORE = card1 => rescan STORE = 1 / rescan1 => rescan of STORE is not monotone at node 1
 (A stream, J preds) = give ACCESS_HEAP(A, J); => (A stream, J preds) = give ACCESS_HEAP(A => statement 9 is not understood
-(A stream, J preds) = give ACCESS_HEAP(A, J); => (A stream, J preds) = give Glue(A, J); => Glue below AccessRoot in statement 9
-(A stream, J preds) = give ACCESS_HEAP(A, J); => (A stream, J preds) = give ACCESS_HEAP(A, J) | give ACCESS_HEAP(A, J); => statement 9 is not built yet
-(A stream, J preds) = give ACCESS_HEAP(A, J); => (B stream, J preds) = give ACCESS_HEAP(B, J); => statement 9 is not built yet
-B stream, J preds) = give ACCESS_HEAP(A, J); => B stream, J preds) = give ACCESS_HEAP(B, J); => statement 10 is not built yet";
+(A stream, J preds) = give ACCESS_HEAP(A, J); => (A stream, J preds) = give Glue(A, J); => Glue below AccessRoot in statement 9";
 
 #[test]
 fn refuses_rules(rt: HostRuntime) -> Result<(), Fail> {
@@ -53,15 +50,6 @@ fn refuses_changed_rules(rt: HostRuntime) -> Result<(), Fail> {
     Ok(())
 }
 
-// The standard repertoire is accepted, and its STARs aren't built.
-#[test]
-fn refuses_the_standard_rules(rt: HostRuntime) -> Result<(), Fail> {
-    let told = plan(rt.alloc(), STANDARD, STAFF, "select e.id from emp e;")?;
-    let wanted = "RulesRefused, calls 1\nout: \nerr: rules: statement 23 is not built yet\n";
-    assert_eq!(rt; told.as_str(), wanted);
-    Ok(())
-}
-
 // Each kind of fault of a catalogue.
 const CATALOGUES: &str = "site 'a => no token at byte 5
 ((((((((((((((((((((((((((((((((((; => statement 1 is too deep
@@ -84,7 +72,7 @@ fn refuses_catalogues(rt: HostRuntime) -> Result<(), Fail> {
     Ok(())
 }
 
-// Each kind of fault of a query, and queries without a fault that are not built.
+// Each kind of fault of a query.
 const QUERIES: &str = "select e.id from emp e where e.id != 1; => no token at byte 34
 ((((((((((((((((((((((((((((((((((; => statement 1 is too deep
 select e.id from emp e => statement 1 is not understood
@@ -92,12 +80,7 @@ select e.id from emp e; select => statement 2 is not understood
 select e.age from emp e; => unknown name in statement 1
 select e.id from emp e, dept e; => name defined twice in statement 1
 select e.id from emp e where e.id = 9223372036854775808; => limit Number in statement 1
-select e.id from emp e where e.name = 3; => predicate 1 compares two types
-select e.id from emp e where e.dno = 3; => statement 1 is not built yet
-select e.id from emp e order by e.id; => statement 1 is not built yet
-select e.id from emp e at hq; => statement 1 is not built yet
-select e.id from emp e, dept d; => statement 1 is not built yet
-select e.id, d.city from dept d, emp e where e.dno = d.id; => statement 1 is not built yet";
+select e.id from emp e where e.name = 3; => predicate 1 compares two types";
 
 #[test]
 fn refuses_queries(rt: HostRuntime) -> Result<(), Fail> {

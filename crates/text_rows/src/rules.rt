@@ -27,24 +27,24 @@ cost ACCESS_HEAP = 0000000000000000007; rescan ACCESS_HEAP = 0; {glue}{access}{j
 cost ACCESS_HEAP = rows - pages - 1; rescan ACCESS_HEAP = 0; {glue}{access}{join} => # cost 899 rescan 0 card 1000
 cost ACCESS_HEAP = 2 + 3 * 4 - 1; rescan ACCESS_HEAP = 0; {glue}{access}{join} => # cost 13 rescan 0 card 1000";
 
-// Rules that are accepted and have no planner yet.
-const NOT_BUILT: &str =
-    "{heap}{glue}star AccessRoot(A stream, J preds) = give ACCESS_HEAP(A, J) | give ACCESS_HEAP(A, J);{join} => rules: statement 9 is not built yet
-{heap}{glue}star AccessRoot(A stream, J preds) = give STORE(ACCESS_HEAP(A, J), nocols);{join} => rules: statement 9 is not built yet
-{heap}{glue}star AccessRoot(A stream, J preds) = when empty(J) give ACCESS_HEAP(A, J);{join} => rules: statement 9 is not built yet
-{heap}{glue}star AccessRoot(A stream, J preds) = for s in sites give ACCESS_HEAP(A, J);{join} => rules: statement 9 is not built yet
-{heap}{glue}star AccessRoot(A stream, J preds) = give ACCESS_HEAP(A[temp], J);{join} => rules: statement 9 is not built yet
-{heap}{glue}star AccessRoot(A stream, J preds) = give ACCESS_HEAP(A, none);{join} => rules: statement 9 is not built yet
-{heap}{glue}star AccessRoot(A stream, J preds) = give ACCESS_HEAP(A, union(J, inside(tables(A))));{join} => rules: statement 9 is not built yet
-{heap}{glue}star AccessRoot(B stream, J preds) = give ACCESS_HEAP(B, J);{join} => rules: statement 9 is not built yet
-{heap}{glue}star AccessRoot(A stream, P preds) = give ACCESS_HEAP(A, P);{join} => rules: statement 9 is not built yet
-{heap}{glue}{access}star JoinRoot(A stream, B stream, J preds) = give ACCESS_HEAP(B, J); => rules: statement 10 is not built yet
-{heap}{glue}{access}star JoinRoot(B stream, A stream, J preds) = give ACCESS_HEAP(A, J); => rules: statement 10 is not built yet
-{heap}{glue}{access}star JoinRoot(A stream, B stream, J preds) = give SORT(ACCESS_HEAP(A, J), orderby); => rules: statement 10 is not built yet
-{heap}{glue}star JoinRoot(A stream, B stream, J preds) = give Glue(A, J);star AccessRoot(A stream, J preds) = give ACCESS_HEAP(A, none); => rules: statement 9 is not built yet
-{heap}{glue}{access}{join}star Other(A stream, J preds) = give ACCESS_HEAP(A, J); => rules: statement 11 is not built yet
-{heap}{glue}{access}star Other(A stream, J preds) = give Glue(A, J);{join} => rules: statement 10 is not built yet
-star AccessRoot(A stream, J preds) = give Heap(A, J);star Heap(A stream, J preds) = give ACCESS_HEAP(A, J);{heap}{glue}{join} => rules: statement 1 is not built yet";
+// Rules that derive the same plan in other ways, or another, with the numbers of the plan.
+const OTHER_WAYS: &str =
+    "{heap}{glue}star AccessRoot(A stream, J preds) = give ACCESS_HEAP(A, J) | give ACCESS_HEAP(A, J);{join} => # cost 2000 rescan 2000 card 1000
+{heap}{glue}star AccessRoot(A stream, J preds) = give STORE(ACCESS_HEAP(A, J), nocols);{join} => # cost 4000 rescan 1000 card 1000
+{heap}{glue}star AccessRoot(A stream, J preds) = when empty(J) give ACCESS_HEAP(A, J);{join} => # cost 2000 rescan 2000 card 1000
+{heap}{glue}star AccessRoot(A stream, J preds) = for s in sites give ACCESS_HEAP(A, J);{join} => # cost 2000 rescan 2000 card 1000
+{heap}{glue}star AccessRoot(A stream, J preds) = give ACCESS_HEAP(A[temp], J);{join} => # cost 2000 rescan 2000 card 1000
+{heap}{glue}star AccessRoot(A stream, J preds) = give ACCESS_HEAP(A, none);{join} => # cost 2000 rescan 2000 card 1000
+{heap}{glue}star AccessRoot(A stream, J preds) = give ACCESS_HEAP(A, union(J, inside(tables(A))));{join} => # cost 2000 rescan 2000 card 1000
+{heap}{glue}star AccessRoot(B stream, J preds) = give ACCESS_HEAP(B, J);{join} => # cost 2000 rescan 2000 card 1000
+{heap}{glue}star AccessRoot(A stream, P preds) = give ACCESS_HEAP(A, P);{join} => # cost 2000 rescan 2000 card 1000
+{heap}{glue}{access}star JoinRoot(A stream, B stream, J preds) = give ACCESS_HEAP(B, J); => # cost 2000 rescan 2000 card 1000
+{heap}{glue}{access}star JoinRoot(B stream, A stream, J preds) = give ACCESS_HEAP(A, J); => # cost 2000 rescan 2000 card 1000
+{heap}{glue}{access}star JoinRoot(A stream, B stream, J preds) = give SORT(ACCESS_HEAP(A, J), orderby); => # cost 2000 rescan 2000 card 1000
+{heap}{glue}star JoinRoot(A stream, B stream, J preds) = give Glue(A, J);star AccessRoot(A stream, J preds) = give ACCESS_HEAP(A, none); => # cost 2000 rescan 2000 card 1000
+{heap}{glue}{access}{join}star Other(A stream, J preds) = give ACCESS_HEAP(A, J); => # cost 2000 rescan 2000 card 1000
+{heap}{glue}{access}star Other(A stream, J preds) = give Glue(A, J);{join} => # cost 2000 rescan 2000 card 1000
+star AccessRoot(A stream, J preds) = give Heap(A, J);star Heap(A stream, J preds) = give ACCESS_HEAP(A, J);{heap}{glue}{join} => # cost 2000 rescan 2000 card 1000";
 
 // Texts that aren't understood, by their bytes, their depth and their grammar.
 const MISREAD: &str = "cost SORT = cost1 ? 2; => rules: no token at byte 18
@@ -175,7 +175,7 @@ cost SORT = 1; cost SORT = 1; star S(A stream, A stream) = give S(A, A); => rule
 {heap}{glue}{access}{join}star S(A stream, A preds) = give Glue(A, none); => rules: name defined twice in statement 11
 {heap}{glue}{access}{join}star S(A stream) = for A in sites give Glue(A, none); => rules: name defined twice in statement 11
 {heap}{glue}{access}{join}star S(A stream) = for x in sites for x in indexes(A) give Glue(A, none); => rules: name defined twice in statement 11
-{heap}{glue}{access}{join}star S(A stream) = for x in sites give Glue(A, none) | for x in sites give Glue(A, none); => rules: statement 11 is not built yet
+{heap}{glue}{access}{join}star S(A stream) = for x in sites give Glue(A, none) | for x in sites give Glue(A, none); => # cost 2000 rescan 2000 card 1000
 {access}{access}{access} => rules: name defined twice in statement 2
 cost GET = 1; rescan GET = 1; {heap}{glue}{access}{join} => # cost 2000 rescan 2000 card 1000";
 
@@ -257,14 +257,14 @@ const MONOTONE: &str =
 
 // Heights of 16 and of 17.
 const TALL: &str =
-    "{heap}{glue}{access}{join}star S1(A stream) = give S2(A);star S2(A stream) = give S3(A);star S3(A stream) = give S4(A);star S4(A stream) = give S5(A);star S5(A stream) = give S6(A);star S6(A stream) = give S7(A);star S7(A stream) = give S8(A);star S8(A stream) = give S9(A);star S9(A stream) = give S10(A);star S10(A stream) = give S11(A);star S11(A stream) = give S12(A);star S12(A stream) = give S13(A);star S13(A stream) = give S14(A);star S14(A stream) = give S15(A);star S15(A stream) = give S16(A);star S16(A stream) = give Glue(A, none); => rules: statement 11 is not built yet
+    "{heap}{glue}{access}{join}star S1(A stream) = give S2(A);star S2(A stream) = give S3(A);star S3(A stream) = give S4(A);star S4(A stream) = give S5(A);star S5(A stream) = give S6(A);star S6(A stream) = give S7(A);star S7(A stream) = give S8(A);star S8(A stream) = give S9(A);star S9(A stream) = give S10(A);star S10(A stream) = give S11(A);star S11(A stream) = give S12(A);star S12(A stream) = give S13(A);star S13(A stream) = give S14(A);star S14(A stream) = give S15(A);star S15(A stream) = give S16(A);star S16(A stream) = give Glue(A, none); => # cost 2000 rescan 2000 card 1000
 {heap}{glue}{access}{join}star S1(A stream) = give S2(A);star S2(A stream) = give S3(A);star S3(A stream) = give S4(A);star S4(A stream) = give S5(A);star S5(A stream) = give S6(A);star S6(A stream) = give S7(A);star S7(A stream) = give S8(A);star S8(A stream) = give S9(A);star S9(A stream) = give S10(A);star S10(A stream) = give S11(A);star S11(A stream) = give S12(A);star S12(A stream) = give S13(A);star S13(A stream) = give S14(A);star S14(A stream) = give S15(A);star S15(A stream) = give S16(A);star S16(A stream) = give S17(A);star S17(A stream) = give Glue(A, none); => rules: statement 11 has height 17";
 
 // Weights of at most 4096, and of more.
 const WIDE: &str =
-    "{heap}{glue}{access}{join}star Wide0(A stream) = `15 give Glue(A, none) | `give Glue(A, none);star Wide1(A stream) = `15 give Wide0(A) | `give Wide0(A);star Wide2(A stream) = `14 give Wide1(A) | `give Wide1(A); => rules: statement 11 is not built yet
+    "{heap}{glue}{access}{join}star Wide0(A stream) = `15 give Glue(A, none) | `give Glue(A, none);star Wide1(A stream) = `15 give Wide0(A) | `give Wide0(A);star Wide2(A stream) = `14 give Wide1(A) | `give Wide1(A); => # cost 2000 rescan 2000 card 1000
 {heap}{glue}{access}{join}star Wide0(A stream) = `15 give Glue(A, none) | `give Glue(A, none);star Wide1(A stream) = `15 give Wide0(A) | `give Wide0(A);star Wide2(A stream) = `15 give Wide1(A) | `give Wide1(A); => rules: statement 13 has weight 4368
-{heap}{glue}{access}{join}star Wide0(A stream) = `15 give Glue(A, none) | `give Glue(A, none);star Wide1(A stream) = `15 give Wide0(A) | `give Wide0(A);star Wide2(A stream) = `14 give Wide1(A) | `give Wide1(A);star Wide3(A stream) = give Wide2(A); => rules: statement 11 is not built yet
+{heap}{glue}{access}{join}star Wide0(A stream) = `15 give Glue(A, none) | `give Glue(A, none);star Wide1(A stream) = `15 give Wide0(A) | `give Wide0(A);star Wide2(A stream) = `14 give Wide1(A) | `give Wide1(A);star Wide3(A stream) = give Wide2(A); => # cost 2000 rescan 2000 card 1000
 {heap}{glue}{access}{join}star Wide0(A stream) = `15 give Glue(A, none) | `give Glue(A, none);star Wide1(A stream) = `15 give Wide0(A) | `give Wide0(A);star Wide2(A stream) = `15 give Wide1(A) | `give Wide1(A);star Wide3(A stream) = give Wide2(A) | give Wide2(A); => rules: statement 13 has weight 4368";
 
 // Which of two faults is told.
@@ -284,7 +284,7 @@ star AccessRoot(A stream, J preds) = give Glue(A, J); => rules: Glue below Acces
 #[test]
 fn judges_rules(rt: HostRuntime) -> Result<(), Fail> {
     for rows in [
-        PLANNED, NOT_BUILT, MISREAD, LIMITS, UNKNOWN, TWICE, ARITY, KIND, CYCLE, GLUE, ROOTS,
+        PLANNED, OTHER_WAYS, MISREAD, LIMITS, UNKNOWN, TWICE, ARITY, KIND, CYCLE, GLUE, ROOTS,
         FORMULAS, MONOTONE, TALL, WIDE, PAIRS,
     ] {
         let differing = differing_rules(rt.alloc(), rows)?;

@@ -142,6 +142,12 @@ pushed_predicate = (d.Glue [] (d.Goal (record { tables = 3; pushed = 0 }) (Some 
 abbrev pub pushed_twice : Deriv
 pushed_twice = (d.Glue [] (d.Goal (record { tables = 7; pushed = 0 }) (Some (4, 3)) (d.Reference (codes "JoinRoot") 1 [] (d.Binary flavour.JoinNl (d.Glue [] (d.Goal (record { tables = 4; pushed = 0 }) None (d.Reference (codes "AccessRoot") 2 (1 ∷ []) (derivation.Leaf flavour.AccessIndex)))) (d.Glue [] (d.Goal (record { tables = 3; pushed = 2 }) (Some (1, 2)) (d.Reference (codes "JoinRoot") 2 [] (d.Binary flavour.JoinNl (d.Glue [] (d.Goal (record { tables = 1; pushed = 0 }) None (d.Reference (codes "AccessRoot") 1 [] (derivation.Leaf flavour.AccessHeap)))) (d.Glue [] (d.Goal (record { tables = 2; pushed = 2 }) None (d.Reference (codes "AccessRoot") 2 (1 ∷ []) (derivation.Leaf flavour.AccessIndex))))))))))))
 
+abbrev pub read_alone : Deriv
+read_alone = (d.Glue [] (d.Goal (record { tables = 1; pushed = 0 }) None (d.Reference (codes "AccessRoot") 1 [] (derivation.Leaf flavour.AccessHeap))))
+
+abbrev pub read_and_stored : Deriv
+read_and_stored = (d.Glue [] (d.Goal (record { tables = 1; pushed = 0 }) None (d.Reference (codes "AccessRoot") 2 [] (d.Unary flavour.Store (derivation.Leaf flavour.AccessHeap)))))
+
 abbrev pub second_of_two : Deriv
 second_of_two = (d.Glue [] (d.Goal (record { tables = 1; pushed = 0 }) None (d.Reference (codes "AccessRoot") 2 [] (derivation.Leaf flavour.AccessHeap))))
 
@@ -174,6 +180,9 @@ split_with_empty_part = (d.Glue [] (d.Goal (record { tables = 3; pushed = 0 }) (
 
 abbrev pub split_with_overlap : Deriv
 split_with_overlap = (d.Glue [] (d.Goal (record { tables = 3; pushed = 0 }) (Some (3, 2)) (d.Reference (codes "JoinRoot") 1 [] (d.Binary flavour.JoinNl (d.Glue [] (d.Goal (record { tables = 3; pushed = 0 }) None (d.Reference (codes "AccessRoot") 1 [] (derivation.Leaf flavour.AccessHeap)))) (d.Glue [] (d.Goal (record { tables = 2; pushed = 0 }) None (d.Reference (codes "AccessRoot") 1 [] (derivation.Leaf flavour.AccessHeap))))))))
+
+abbrev pub stored_again : Deriv
+stored_again = (d.Glue [] (d.Goal (record { tables = 1; pushed = 0 }) None (d.Reference (codes "AccessRoot") 3 [] (d.Unary flavour.Store (d.Unary flavour.Store (derivation.Leaf flavour.AccessHeap))))))
 
 abbrev pub stored_table : Deriv
 stored_table = (d.Glue [] (d.Goal (record { tables = 1; pushed = 0 }) None (d.Reference (codes "AccessRoot") 1 [] (d.Unary flavour.Store (derivation.Leaf flavour.AccessHeap)))))

@@ -131,6 +131,15 @@ stored_tiny = record {
       ∷ [];
 }
 
+abbrev pub storing : RuleFile
+storing = record {
+  formulas = formulas_of_stored_tiny;
+  stars =
+      record { statement = 9; name = codes "AccessRoot"; params = (record { name = codes "A"; kind = kind.Stream } ∷ record { name = codes "J"; kind = kind.Preds } ∷ []); alternatives = (record { ranges = []; condition = None; body = (plan.Leaf flavour.AccessHeap ((value.Variable (codes "A") 0) ∷ (value.Variable (codes "J") 1) ∷ [])) } ∷ record { ranges = []; condition = None; body = (e.Unary flavour.Store (value.NoCols ∷ []) (plan.Leaf flavour.AccessHeap ((value.Variable (codes "A") 0) ∷ (value.Variable (codes "J") 1) ∷ []))) } ∷ record { ranges = []; condition = None; body = (e.Unary flavour.Store (value.NoCols ∷ []) (e.Unary flavour.Store (value.NoCols ∷ []) (plan.Leaf flavour.AccessHeap ((value.Variable (codes "A") 0) ∷ (value.Variable (codes "J") 1) ∷ [])))) } ∷ []) }
+      ∷ record { statement = 10; name = codes "JoinRoot"; params = (record { name = codes "A"; kind = kind.Stream } ∷ record { name = codes "B"; kind = kind.Stream } ∷ record { name = codes "J"; kind = kind.Preds } ∷ []); alternatives = (record { ranges = []; condition = None; body = (plan.Leaf flavour.AccessHeap ((value.Variable (codes "A") 0) ∷ (value.Variable (codes "J") 2) ∷ [])) } ∷ []) }
+      ∷ [];
+}
+
 abbrev pub tie : RuleFile
 tie = record {
   formulas = formulas_of_stored_tiny;

@@ -230,6 +230,16 @@ pub fn pushed_twice()
     ensures { HasNumbers query.colleagues rules.pushdown tree.pushed_twice 1321210 1321210 100000 }
 {}
 
+/// The table is read, which costs least. Under `storing.rules`, for `t_filled.query`.
+pub fn read_alone()
+    ensures { HasNumbers query.t_filled rules.storing tree.read_alone 1500 1500 1000 }
+{}
+
+/// The table is read and stored: dearer at first, and cheaper again. Under `storing.rules`, for `t_filled.query`.
+pub fn read_and_stored()
+    ensures { HasNumbers query.t_filled rules.storing tree.read_and_stored 3500 1000 1000 }
+{}
+
 /// The second of two equal alternatives. Under `tie.rules`, for `t_filled.query`.
 pub fn second_of_two()
     ensures { HasNumbers query.t_filled rules.tie tree.second_of_two 1500 1500 1000 }
@@ -283,6 +293,11 @@ pub fn split_with_empty_part()
 /// The parts of the split have a table in common. Under `heaps.rules`, for `cities.query`.
 pub fn split_with_overlap()
     ensures { IsInvalidAt 2 query.cities rules.heaps tree.split_with_overlap }
+{}
+
+/// The table is stored twice, which the table stored once is better than. Under `storing.rules`, for `t_filled.query`.
+pub fn stored_again()
+    ensures { HasNumbers query.t_filled rules.storing tree.stored_again 5500 1000 1000 }
 {}
 
 /// The table is stored once it is read. Under `stored_tiny.rules`, for `t_filled.query`.

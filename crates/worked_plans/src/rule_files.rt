@@ -47,6 +47,11 @@ pub fn accepted_stored_tiny()
     ensures { HasNoFault rules.stored_tiny }
 {}
 
+/// `storing.rules` has no fault that a test finds.
+pub fn accepted_storing()
+    ensures { HasNoFault rules.storing }
+{}
+
 /// `tie.rules` has no fault that a test finds.
 pub fn accepted_tie()
     ensures { HasNoFault rules.tie }

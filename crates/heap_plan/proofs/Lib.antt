@@ -1,8 +1,0 @@
-mod StarTests
-mod FirstOther
-mod AccessStar
-mod Root
-mod Only
-mod Parts
-mod Planned
-pub mod Laws

@@ -1,4 +1,0 @@
-pub mod Small
-pub mod HeapStars
-pub mod HeapTests
-pub mod HeapAccess

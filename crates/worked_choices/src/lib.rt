@@ -1,0 +1,34 @@
+//! Worked choices: which plan costs least and what is on a frontier, said of one small query by rules that derive three plans of it.
+//!
+//! The table is read, or stored too, or stored twice. Each claim stands in both ways: of a plan of which it holds, and refuted of one
+//! that comes close.
+#![tactic(auto)]
+
+ghost use Rattle.star_model.specs.Derivations.{IsLeast, IsOfGoal, OnFrontier};
+ghost use Rattle.star_model.specs.declared.plans.Props.{Props};
+ghost use Rattle.worked_choices.specs.Storing.{query, rules, read_alone, and_stored, stored_again};
+ghost use Rattle.worked_choices.specs.Claims.{HasLeastCost, IsOneOf};
+ghost use Rattle.worked_plans.specs.Derivations as tree;
+
+/// The rules derive three vectors for the query's goal, and no other.
+pub fn the_goal_has_three_vectors()
+    ensures read { IsOfGoal query rules 1 0 read_alone }
+    ensures stored { IsOfGoal query rules 1 0 and_stored }
+    ensures again { IsOfGoal query rules 1 0 stored_again }
+    ensures no_other { (v : Props) → IsOfGoal query rules 1 0 v → IsOneOf v }
+{}
+
+/// The table that is read alone costs least; the stored one costs more, though it is produced again at less.
+pub fn the_cheaper_is_least()
+    ensures cheaper { HasLeastCost query rules tree.read_alone 1500 }
+    ensures dearer { (v : Props) → IsLeast query rules tree.read_and_stored v → ⊥ }
+{}
+
+/// Neither of the first two covers the other, so both are on the frontier. The third is covered by the second, and a vector that
+/// nothing derives isn't there, however little it costs.
+pub fn two_are_on_the_frontier()
+    ensures cheaper { OnFrontier query rules 1 0 read_alone }
+    ensures dearer { OnFrontier query rules 1 0 and_stored }
+    ensures covered { OnFrontier query rules 1 0 stored_again → ⊥ }
+    ensures underived { OnFrontier query rules 1 0 (record read_alone { cost = 1 }) → ⊥ }
+{}
