@@ -2,6 +2,7 @@ mod Words
 pub mod FaultLaws
 pub mod Along
 pub mod Causes
+mod Endings
 pub mod Derived
 pub mod Says
 pub mod ThreeTexts

@@ -42,11 +42,19 @@ abbrev pub yes_or_no : Bool → List ℕ
 yes_or_no true = codes "yes"
 yes_or_no false = codes "no"
 
--- the line of a vector
+-- the parts of the line of a vector
+
+abbrev pub costs_text : Props → List ℕ
+costs_text v = codes "cost " ++ decimal v.cost ++ codes " rescan " ++ decimal v.rescan
+
+abbrev pub place_text : QueryTree → Props → List ℕ
+place_text query v = codes " site " ++ site_name query v.site ++ codes " temp " ++ yes_or_no v.temp
+
+abbrev pub lists_text : QueryTree → Props → List ℕ
+lists_text query v = codes " order [" ++ columns_text query v.order ++ codes "] path [" ++ columns_text query v.path ++ codes "]"
+
 abbrev pub frontier_line : QueryTree → Props → List ℕ
-frontier_line query v =
-    codes "cost " ++ decimal v.cost ++ codes " rescan " ++ decimal v.rescan ++ codes " site " ++ site_name query v.site
-    ++ codes " temp " ++ yes_or_no v.temp ++ codes " order [" ++ columns_text query v.order ++ codes "] path [" ++ columns_text query v.path ++ codes "]" ++ 10 ∷ []
+frontier_line query v = costs_text v ++ place_text query v ++ lists_text query v ++ 10 ∷ []
 
 -- how the search for the query's goal ends, and the text of each end
 abbrev pub FrontierText : RuleFile → QueryTree → Found → List ℕ → Type 0

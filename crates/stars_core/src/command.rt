@@ -21,10 +21,12 @@ fn begins_dash(word: &str) -> bool
 fn named(word: &str) -> Option<Command>
     ensures { result ≡ named word.now }
 {
-    match word {
-        "plan" => Some(Command::Plan),
-        "frontier" => Some(Command::Frontier),
-        _ => None,
+    if word == "plan" {
+        Some(Command::Plan)
+    } else if word == "frontier" {
+        Some(Command::Frontier)
+    } else {
+        None
     }
 }
 

@@ -2,7 +2,7 @@
 ghost use Rattle.std.specs.Prelude.{◌≡◌, ◌++◌, IfOk, OnOk, string_bytes};
 ghost use Rattle.std.specs.List.{flat_map};
 ghost use Rattle.star_model.specs.WellFormed.{WellFormedQuery};
-ghost use Rattle.stars_core.specs.Frontier.{FrontierText, site_name, quantifier_name, column_name, column_text, further_columns, columns_text, yes_or_no, frontier_line};
+ghost use Rattle.stars_core.specs.Frontier.{FrontierText, site_name, quantifier_name, column_name, column_text, further_columns, columns_text, yes_or_no, costs_text, place_text, lists_text, frontier_line};
 
 use crate::plan::unplanned;
 use crate::{Answer, Found};
@@ -83,6 +83,36 @@ fn yes_or_no(is_so: bool) -> &'static [u8]
     if is_so { b"yes" } else { b"no" }
 }
 
+fn push_costs(alloc: Global, text: &mut Vec<u8>, props: &Props) -> Result<(), AllocError>
+    ensures { OnOk result (text.new.items ≡ text.old.items ++ costs_text props.now) }
+{
+    let cost = props.cost.get();
+    let rescan = props.rescan.get();
+    let cost = format!(in alloc; "cost {cost}")?;
+    let rescan = format!(in alloc; " rescan {rescan}")?;
+    text.extend_from_slice(cost.as_bytes())?;
+    text.extend_from_slice(rescan.as_bytes())
+}
+
+fn push_place(text: &mut Vec<u8>, query: &Query, props: &Props) -> Result<(), AllocError>
+    ensures { OnOk result (text.new.items ≡ text.old.items ++ place_text query.now props.now) }
+{
+    text.extend_from_slice(b" site ")?;
+    text.extend_from_slice(site_name(query, props.site))?;
+    text.extend_from_slice(b" temp ")?;
+    text.extend_from_slice(yes_or_no(props.temp))
+}
+
+fn push_lists(text: &mut Vec<u8>, query: &Query, props: &Props) -> Result<(), AllocError>
+    ensures { OnOk result (text.new.items ≡ text.old.items ++ lists_text query.now props.now) }
+{
+    text.extend_from_slice(b" order [")?;
+    push_columns(text, query, &props.order)?;
+    text.extend_from_slice(b"] path [")?;
+    push_columns(text, query, &props.path)?;
+    text.extend_from_slice(b"]")
+}
+
 // The line of a vector.
 fn push_line(
     alloc: Global,
@@ -92,21 +122,10 @@ fn push_line(
 ) -> Result<(), AllocError>
     ensures { OnOk result (text.new.items ≡ text.old.items ++ frontier_line query.now props.now) }
 {
-    let cost = props.cost.get();
-    let rescan = props.rescan.get();
-    let cost = format!(in alloc; "cost {cost}")?;
-    let rescan = format!(in alloc; " rescan {rescan}")?;
-    text.extend_from_slice(cost.as_bytes())?;
-    text.extend_from_slice(rescan.as_bytes())?;
-    text.extend_from_slice(b" site ")?;
-    text.extend_from_slice(site_name(query, props.site))?;
-    text.extend_from_slice(b" temp ")?;
-    text.extend_from_slice(yes_or_no(props.temp))?;
-    text.extend_from_slice(b" order [")?;
-    push_columns(text, query, &props.order)?;
-    text.extend_from_slice(b"] path [")?;
-    push_columns(text, query, &props.path)?;
-    text.extend_from_slice(b"]\n")
+    push_costs(alloc, text, props)?;
+    push_place(text, query, props)?;
+    push_lists(text, query, props)?;
+    text.extend_from_slice(b"\n")
 }
 
 fn lines(alloc: Global, query: &Query, vectors: &[Props]) -> Result<Vec<u8>, AllocError>
@@ -120,6 +139,7 @@ fn lines(alloc: Global, query: &Query, vectors: &[Props]) -> Result<Vec<u8>, All
 }
 
 /// How the search for the query's goal ends, and the text that tells it: a line for each vector of the goal's frontier, in their order.
+#[tactic(auto, using(crate::proofs::Endings::no_lines_told))]
 pub fn frontier_query(
     alloc: Global,
     rules: &CheckedRules,

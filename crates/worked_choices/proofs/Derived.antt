@@ -98,37 +98,34 @@ only_body : (e : PlanExpr) (picks : List ℕ) (y : Expected)
 only_body e [] y h = cc
 only_body e (n ∷ picks) y h = cc
 
-bodies : (n : ℕ) (picks : List ℕ) (y : Expected) → body_of query rules (codes "AccessRoot") arguments n picks ≡ Some y
-    → (Expression heap arguments ≡ y) ⊎ (Expression (stored heap) arguments ≡ y) ⊎ (Expression (stored (stored heap)) arguments ≡ y)
-bodies n picks y h = go (at_three (giving heap) (giving (stored heap)) (giving (stored (stored heap))) a.0 (n - 1) (unchosen (nat_eq n 0) _ a.0 a.1))
-  where
-    abbrev body : Alternative → Option Expected
-    body a = option_and_then (λ c. if meets query c a.condition then Some (Expression a.body c) else None) (bound query a.ranges picks arguments)
+abbrev body_under : List ℕ → Alternative → Option Expected
+body_under picks a = option_and_then (λ c. if meets query c a.condition then Some (Expression a.body c) else None) (bound query a.ranges picks arguments)
 
-    a : (a : Alternative) × (alternative_of rules (codes "AccessRoot") n ≡ Some a) × (body a ≡ Some y)
-    a = bind body (alternative_of rules (codes "AccessRoot") n) y h
+abbrev IsBody : Expected → Type 0
+IsBody y = (Expression heap arguments ≡ y) ⊎ (Expression (stored heap) arguments ≡ y) ⊎ (Expression (stored (stored heap)) arguments ≡ y)
 
-    go : (giving heap ≡ a.0) ⊎ (giving (stored heap) ≡ a.0) ⊎ (giving (stored (stored heap)) ≡ a.0)
-        → (Expression heap arguments ≡ y) ⊎ (Expression (stored heap) arguments ≡ y) ⊎ (Expression (stored (stored heap)) arguments ≡ y)
-    go (inl e) = inl (only_body heap picks y (ap body e ∙ a.2))
-    go (inr (inl e)) = inr (inl (only_body (stored heap) picks y (ap body e ∙ a.2)))
-    go (inr (inr e)) = inr (inr (only_body (stored (stored heap)) picks y (ap body e ∙ a.2)))
+body_is : (a : Alternative) (picks : List ℕ) (y : Expected) → (giving heap ≡ a) ⊎ (giving (stored heap) ≡ a) ⊎ (giving (stored (stored heap)) ≡ a)
+    → body_under picks a ≡ Some y → IsBody y
+body_is a picks y (inl e) h = inl (only_body heap picks y (ap (body_under picks) e ∙ h))
+body_is a picks y (inr (inl e)) h = inr (inl (only_body (stored heap) picks y (ap (body_under picks) e ∙ h)))
+body_is a picks y (inr (inr e)) h = inr (inr (only_body (stored (stored heap)) picks y (ap (body_under picks) e ∙ h)))
+
+bodies : (n : ℕ) (picks : List ℕ) (y : Expected) → body_of query rules (codes "AccessRoot") arguments n picks ≡ Some y → IsBody y
+bodies n picks y h =
+    let a = bind (body_under picks) (alternative_of rules (codes "AccessRoot") n) y h in
+    body_is a.0 picks y (at_three (giving heap) (giving (stored heap)) (giving (stored (stored heap))) a.0 (n - 1) (unchosen (nat_eq n 0) _ a.0 a.1)) a.2
+
+at_body : (y : Expected) (i : DerivedPlan) → IsBody y → IsDerived query rules y i → IsOneOf (vector_of i)
+at_body y i (inl is) h = inl (of_heap i (subst (λ (x : Expected). IsDerived query rules x i) (sym is) h))
+at_body y i (inr (inl is)) h = inr (inl (of_stored heap read_alone and_stored of_heap stores i (subst (λ (x : Expected). IsDerived query rules x i) (sym is) h)))
+at_body y i (inr (inr is)) h =
+    inr (inr (of_stored (stored heap) and_stored stored_again (of_stored heap read_alone and_stored of_heap stores) stores_again i (subst (λ (x : Expected). IsDerived query rules x i) (sym is) h)))
 
 of_call : (e : DerivedPlan) → IsDerived query rules (Call (codes "AccessRoot") arguments) e → IsOneOf (vector_of e)
-of_call e h = go (bodies way.0 way.1 way.2 way.4)
-  where
-    abbrev way = (call_ways query rules (codes "AccessRoot") arguments e).0 h
-
-    same : vector_of e ≡ vector_of way.3
-    same = ap vector_of way.6
-
-    at : (b : PlanExpr) → Expression b arguments ≡ way.2 → IsDerived query rules (Expression b arguments) way.3
-    at b is = subst (λ (y : Expected). IsDerived query rules y way.3) (sym is) way.5
-
-    go : (Expression heap arguments ≡ way.2) ⊎ (Expression (stored heap) arguments ≡ way.2) ⊎ (Expression (stored (stored heap)) arguments ≡ way.2) → IsOneOf (vector_of e)
-    go (inl is) = inl (same ∙ of_heap way.3 (at heap is))
-    go (inr (inl is)) = inr (inl (same ∙ of_stored heap read_alone and_stored of_heap stores way.3 (at (stored heap) is)))
-    go (inr (inr is)) = inr (inr (same ∙ of_stored (stored heap) and_stored stored_again (of_stored heap read_alone and_stored of_heap stores) stores_again way.3 (at (stored (stored heap)) is)))
+of_call e h =
+    let way = (call_ways query rules (codes "AccessRoot") arguments e).0 h in
+    let body = way.2 in
+    subst IsOneOf (sym (ap vector_of body.4)) (at_body body.0 body.1 (bodies way.0 way.1 body.0 body.2) body.3)
 
 -- ---- the goal
 
@@ -140,8 +137,9 @@ no_split (Some p) h = cc
 of_goal : (e : DerivedPlan) → IsDerived query rules (ForGoal 1 0) e → IsOneOf (vector_of e)
 of_goal e h =
     let way = (goal_ways query rules 1 0 e).0 h in
-    let call = subst (λ (s : Option (ℕ × ℕ)). IsDerived query rules (root_call 1 0 s) way.1) (sym (no_split way.0 way.2)) way.3 in
-    subst IsOneOf (sym (ap vector_of way.4.1)) (of_call way.1 call)
+    let split = way.1 in
+    let call = subst (λ (s : Option (ℕ × ℕ)). IsDerived query rules (root_call 1 0 s) split.0) (sym (no_split way.0 split.1)) split.2 in
+    subst IsOneOf (sym (ap vector_of split.3.1)) (of_call split.0 call)
 
 pub no_other : (v : Props) → IsOfGoal query rules 1 0 v → IsOneOf v
 no_other v of =
