@@ -1,5 +1,5 @@
-//! Tests of plans across crates: the vectors of operators' results, the numbers of plans' nodes, which plans a set keeps, and a plan that
-//! is made with its derivation.
+//! Tests of plans across crates: the vectors of operators' results, the numbers of plans' nodes, which plans a set keeps, what Glue
+//! makes of a plan, and a plan that is made with its derivation.
 //!
 //! A table is a text with a row on each line: `TEXT => ANSWER`. The text has the operators of a plan between `; `, each behind its
 //! inputs: `ACCESS_HEAP {1} {}; ACCESS_HEAP {2} {1}; JOIN_NL {}` is a join of two accesses. Quantifiers and predicates have numbers
@@ -14,6 +14,8 @@
 mod entries;
 #[cfg(test)]
 mod formulas;
+#[cfg(test)]
+mod glued;
 #[cfg(test)]
 mod nodes;
 #[cfg(test)]

@@ -25,12 +25,13 @@ ACCESS_HEAP {1} {}; ACCESS_INDEX {2} emp_dno {}; STORE [e.dno]; PROBE [e.dno] {1
 ACCESS_INDEX {2} emp_dno {1}; ACCESS_HEAP {1} {}; JOIN_NL {} => none
 ACCESS_HEAP {1} {}; ACCESS_HEAP {2} {} => several plans";
 
-// As two_sites.catalogue and two_sites_exchanged.catalogue.
-const TWO_SITES: &str = "site a cpu 1 net 1;
+/// As two_sites.catalogue.
+pub const TWO_SITES: &str = "site a cpu 1 net 1;
 site b cpu 5 net 1;
 table t at b rows 100 pages 1 file 't.csv' (k int width 8 distinct 100);";
 
-const EXCHANGED: &str = "site a cpu 5 net 1;
+/// As two_sites_exchanged.catalogue.
+pub const EXCHANGED: &str = "site a cpu 5 net 1;
 site b cpu 1 net 1;
 table t at b rows 100 pages 1 file 't.csv' (k int width 8 distinct 100);";
 

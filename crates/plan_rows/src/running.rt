@@ -2,6 +2,7 @@
 ghost use Rattle.star_model.specs.WellFormed.{WellFormedCatalogue, WellFormedQuery};
 
 use crate::entries::other_derivation;
+use crate::glued::differing_glued;
 use crate::offers::differing_offers;
 use crate::operators::{input_count, operator};
 use crate::planned::differing_nodes;
@@ -28,6 +29,8 @@ pub enum Asked<'a> {
     Nodes,
     /// What becomes of each, where one after another is offered to a new set.
     Offers,
+    /// What Glue makes of an access of the first quantifier's heap: here each text is a requirement, as the operators that it names.
+    Glued,
     /// The cost and the derivation of the one plan, which is the whole table.
     Derivation,
 }
@@ -198,6 +201,7 @@ fn differing_under(
             Asked::Counts(plans) => differing_counts(alloc, &query, costs, plans, rows),
             Asked::Nodes => differing_nodes(alloc, &query, costs, rows),
             Asked::Offers => differing_offers(alloc, &query, costs, rows),
+            Asked::Glued => differing_glued(alloc, &query, costs, rows),
             Asked::Derivation => other_derivation(alloc, &query, costs, rows),
         },
         Err(fault) => format!(in alloc; "{fault:?}"),

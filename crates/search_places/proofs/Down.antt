@@ -1,8 +1,7 @@
 -- How far a search still has to go: references lead to lower STARs, and inputs nest less deep.
-use Prim.Native.Nat.{zero, suc}
-use Rattle.std.proofs.Common.{◌≡◌, ℕ, ◌+◌, ◌-◌, ◌*◌, ◌<◌, ◌≤◌, max, Bool, true, false, ◌&&◌, nat_lt, nat_eq, List, [], ◌∷◌, ◌++◌, Option, Some, None, refl, ap, sym, ◌∙◌, subst, arith, length, if◌then◌else◌}
+use Rattle.std.proofs.Common.{◌≡◌, ℕ, ◌-◌, ◌<◌, ◌≤◌, max, Bool, true, false, nat_lt, nat_eq, List, [], ◌∷◌, ◌++◌, Option, Some, None, refl, arith, if◌then◌else◌}
 use Rattle.std.specs.Prelude.{Contains, option_and_then, slice_get, fold}
-use Rattle.std.specs.List.{find, list_all}
+use Rattle.std.specs.List.{list_all}
 use Rattle.std.proofs.lemmas.Bool.{and_parts, ltb-true}
 use Rattle.star_model.specs.Accepted.{IsAccepted, references_in, height_of}
 use Rattle.star_model.specs.Stars.{star_named, numbered, alternative_of}
@@ -16,9 +15,9 @@ use Rattle.star_model.specs.declared.rules.StarDef.{StarDef}
 use Rattle.star_model.specs.declared.rules.ValueExpr.{ValueExpr}
 use Rattle.star_model.specs.declared.rules.RuleFile.{RuleFile}
 use Rattle.spelling.specs.RuleLimits.{WellFormedRules, nesting}
-use Rattle.star_check.specs.Heights.{height_named, refers_below}
+use Rattle.star_check.specs.Heights.{height_named}
 use Rattle.star_check.proofs.Laws.{bodies_refer_below, height_is_named, heights_are_from_one, bodies_are_shallow}
-use Rattle.search_places.specs.Searching.{reach, work_at, work_in}
+use Rattle.search_places.specs.Searching.{work_at, work_in}
 use Rattle.search_places.proofs.Finding.{contains_at, found_in}
 
 lower : (h : List ℕ × List ValueExpr → ℕ) (rs : List (List ℕ × List ValueExpr)) (from top : ℕ) → from < top → list_all (λ r. nat_lt (h r) top) rs ≡ true → fold (λ m r. max m (h r)) from rs < top

@@ -1,20 +1,18 @@
 -- What an accepted file keeps where a search comes: a reference has few arguments, and a STAR that is called has few alternatives.
-use Prim.Native.Nat.{zero, suc}
-use Rattle.std.proofs.Common.{◌≡◌, ℕ, ◌+◌, ◌-◌, ◌<◌, ◌≤◌, Bool, true, false, ◌&&◌, not, nat_eq, List, [], ◌∷◌, ◌++◌, Option, Some, None, refl, ap, sym, ◌∙◌, subst, arith, length, map, if◌then◌else◌}
-use Rattle.std.specs.Prelude.{Contains, option_and_then, slice_get, is_some, IsSome}
-use Rattle.std.specs.List.{find, list_all}
+use Rattle.std.proofs.Common.{◌≡◌, ℕ, ◌+◌, ◌-◌, ◌≤◌, Bool, true, false, ◌&&◌, not, nat_eq, List, [], ◌∷◌, Option, Some, None, refl, ap, sym, ◌∙◌, subst, arith, length, if◌then◌else◌}
+use Rattle.std.specs.Prelude.{option_and_then, slice_get, is_some, IsSome}
+use Rattle.std.specs.List.{list_all}
 use Rattle.std.specs.Option.{option_map_or}
-use Rattle.std.proofs.lemmas.Bool.{false≢true, and_parts, eqb-true, eq-eqb, ne_eqb}
+use Rattle.std.proofs.lemmas.Bool.{false≢true, and_parts, eqb-true, ne_eqb}
 use Rattle.std.proofs.lemmas.List.{length-map}
-use Rattle.star_model.specs.Accepted.{IsAccepted, references_in, kinds_of, count_of_parameters, root_name}
+use Rattle.star_model.specs.Accepted.{IsAccepted, references_in, count_of_parameters, root_name}
 use Rattle.star_model.specs.Goals.{IsGoal}
 use Rattle.star_model.specs.Kinds.{kind_of_value}
 use Rattle.star_model.specs.Stars.{star_named, numbered, alternative_of}
 use Rattle.star_model.specs.Vectors.{same_numbers}
-use Rattle.star_model.specs.Expected.{Expected, ForGoal, Call, Expression, bound}
+use Rattle.star_model.specs.Expected.{Call, Expression}
 use Rattle.star_model.specs.declared.faults.Root.{Root}
 use Rattle.star_model.specs.declared.rules.Alternative.{Alternative}
-use Rattle.star_model.specs.declared.rules.Kind.{Kind}
 use Rattle.star_model.specs.declared.rules.PlanExpr.{PlanExpr}
 use Rattle.star_model.specs.declared.rules.PlanExpr.TheVariants as made
 use Rattle.star_model.specs.declared.rules.Param.{Param}
@@ -22,9 +20,8 @@ use Rattle.star_model.specs.declared.rules.StarDef.{StarDef}
 use Rattle.star_model.specs.declared.rules.ValueExpr.{ValueExpr}
 use Rattle.star_model.specs.declared.rules.RuleFile.{RuleFile}
 use Rattle.star_model.specs.declared.values.RuleValue.{RuleValue}
-use Rattle.spelling.specs.Lexemes.{Every}
 use Rattle.spelling.specs.RuleLimits.{WellFormedRules, KeepsStarLimits}
-use Rattle.star_check.specs.SoundPlaces.{IsSound, IsSoundCall, IsSoundExpression}
+use Rattle.star_check.specs.SoundPlaces.{IsSoundCall, IsSoundExpression}
 use Rattle.star_check.proofs.Laws.{goal_leads_to_sound}
 use Rattle.search_places.specs.declared.search.Search.{Search}
 use Rattle.search_places.specs.Searching.{LeadsTo, IsWithin}
@@ -99,7 +96,7 @@ to_alternative s star b d i a formed accepted goal leads named at = within (goal
 pub root_is_there : (rules own : RuleFile) (r : Root) (letters : List ℕ) → IsAccepted rules → own ≡ rules → letters ≡ root_name rules r → IsSome (star_named own letters)
 root_is_there rules own r letters accepted same are =
     subst (λ (file : RuleFile). IsSome (star_named file letters)) (sym same)
-        (subst (λ (name : List ℕ). IsSome (star_named rules name)) (sym are) (is_there (star_named rules (root_name rules r)) (accepted.roots r)))
+    (subst (λ (name : List ℕ). IsSome (star_named rules name)) (sym are) (is_there (star_named rules (root_name rules r)) (accepted.roots r)))
   where
     is_there : (o : Option StarDef) → not (is_some o) ≡ false → IsSome o
     is_there None h = sym h

@@ -1,6 +1,6 @@
 -- How a search goes on from a place to the places below it.
 use Prim.Native.Nat.{zero, suc}
-use Rattle.std.proofs.Common.{◌≡◌, ℕ, ◌+◌, ◌-◌, ◌<◌, ◌≤◌, Bool, true, false, ◌&&◌, not, nat_eq, List, [], ◌∷◌, ◌++◌, Option, Some, None, refl, ap, sym, ◌∙◌, subst, arith, length, map, append_assoc, append-nil, length-append, if◌then◌else◌}
+use Rattle.std.proofs.Common.{◌≡◌, ℕ, ◌+◌, ◌<◌, Bool, true, List, [], ◌∷◌, ◌++◌, Option, Some, None, refl, ap, sym, ◌∙◌, subst, arith, map, append_assoc, append-nil, length-append, if◌then◌else◌}
 use Rattle.std.proofs.lemmas.List.Elements.{Contains-append_right}
 use Rattle.std.specs.Prelude.{Contains, option_and_then}
 use Rattle.star_model.specs.AskedGoals.{Below, Leads}
@@ -12,11 +12,8 @@ use Rattle.star_model.specs.declared.rules.Flavour.{Flavour}
 use Rattle.star_model.specs.declared.rules.PlanExpr.{PlanExpr}
 use Rattle.star_model.specs.declared.rules.ValueExpr.{ValueExpr}
 use Rattle.star_model.specs.Meaning.{numbers_of, member_at}
-use Rattle.star_model.specs.Stars.{alternative_of}
 use Rattle.star_model.specs.declared.rules.Alternative.{Alternative}
 use Rattle.star_model.specs.declared.rules.ForAll.{ForAll}
-use Rattle.star_model.specs.declared.rules.RuleFile.{RuleFile}
-use Rattle.star_model.specs.declared.query.Query.{Query}
 use Rattle.star_model.specs.declared.values.RuleValue.{RuleValue}
 use Rattle.star_check.proofs.Laws.{leads_further}
 use Rattle.exchange.proofs.Laws.{bound_step}

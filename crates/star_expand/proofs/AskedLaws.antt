@@ -1,5 +1,5 @@
 -- The goals that a query asks for are those asked from its goal, and a closed memo holds with each goal all that are asked from it.
-use Rattle.std.proofs.Common.{◌≡◌, ℕ, List}
+use Rattle.std.proofs.Common.{ℕ, List}
 use Rattle.std.specs.Prelude.{◌↔◌}
 use Rattle.star_model.specs.AskedGoals.{Asks, AskedGoal}
 use Rattle.star_model.specs.Predicates.{all_quants}

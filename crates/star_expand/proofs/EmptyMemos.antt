@@ -1,5 +1,5 @@
 -- A query is expanded from its own goal over the empty memo, and its set is taken out.
-use Rattle.std.proofs.Common.{◌≡◌, ℕ, List, [], Option, Some, None, sym, ap, subst, ◌∙◌}
+use Rattle.std.proofs.Common.{◌≡◌, List, [], Some, None, sym, ap, subst, ◌∙◌}
 use Rattle.std.proofs.lemmas.Bool.{false≢true}
 use Rattle.star_model.specs.Expected.{ForGoal, query_goal}
 use Rattle.star_model.specs.Goals.{IsGoal}

@@ -1,15 +1,14 @@
 -- Of the set of its goal, what Glue makes is best where Glue stands.
-use Rattle.std.proofs.Common.{◌≡◌, ℕ, List, [], Result, Ok, Err, IfOk, Option, Some, None, IsSome, refl, ap, sym, ◌∙◌, subst}
+use Rattle.std.proofs.Common.{◌≡◌, ℕ, List, [], Result, Ok, Err, IfOk, Option, Some, None, IsSome, sym, ◌∙◌, subst}
 use Rattle.std.proofs.lemmas.Bool.{false≢true}
 use Rattle.std.specs.declared.alloc.AllocError.{AllocError}
 use Rattle.star_model.specs.AskedGoals.{Asks}
 use Rattle.star_model.specs.Costs.{costs_of}
 use Rattle.star_model.specs.Exchange.{CostsPass}
-use Rattle.star_model.specs.Expected.{Expected, ForGoal, Expression, goal_of, glue_of}
+use Rattle.star_model.specs.Expected.{ForGoal, Expression, goal_of, glue_of}
 use Rattle.star_model.specs.Meaning.{meaning, as_stream, as_preds}
 use Rattle.star_model.specs.declared.costs.CostEntry.{CostEntry}
 use Rattle.star_model.specs.declared.plans.Goal.{Goal}
-use Rattle.star_model.specs.declared.plans.Require.{Require}
 use Rattle.star_model.specs.declared.rules.PlanExpr.TheVariants as made
 use Rattle.star_model.specs.declared.rules.ValueExpr.{ValueExpr}
 use Rattle.star_model.specs.declared.values.RuleValue.{RuleValue}
@@ -17,7 +16,7 @@ use Rattle.star_model.specs.declared.values.StreamValue.{StreamValue}
 use Rattle.dominance_prune.specs.Gathering.{Gathers, From, IsFrontier}
 use Rattle.lolepop.specs.Derived.{DerivedPlan, is_better_plan, GluesTo, AllFit}
 use Rattle.table_set_memo.specs.Memos.{plans_at, IsHeld}
-use Rattle.exchange.specs.Places.{IsDerived, IsBestOf}
+use Rattle.exchange.specs.Places.{IsBestOf}
 use Rattle.exchange.proofs.Laws.{best_fit, glue_exchange}
 use Rattle.search_places.specs.declared.search.Search.{Search}
 use Rattle.search_places.specs.Memos.{HoldsFrontiers, HoldsAsked}

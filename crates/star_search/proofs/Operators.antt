@@ -1,10 +1,9 @@
 -- Of what an operator makes of its inputs' sets, the best is best where the operator stands.
-use Prim.Native.Nat.{suc}
-use Rattle.std.proofs.Common.{◌≡◌, ℕ, ◌+◌, ◌<◌, List, [], ◌∷◌, Result, Ok, Err, IfOk, Some, refl, ap, sym, ◌∙◌, subst, arith, length}
+use Rattle.std.proofs.Common.{◌≡◌, ℕ, List, [], ◌∷◌, Result, Ok, Err, IfOk, Some, refl, ap, sym, ◌∙◌, subst, arith, length}
 use Rattle.std.specs.declared.alloc.AllocError.{AllocError}
 use Rattle.star_model.specs.Costs.{costs_of}
 use Rattle.star_model.specs.Exchange.{CostsPass}
-use Rattle.star_model.specs.Expected.{Expected, Call, Expression, operator_of, values_of}
+use Rattle.star_model.specs.Expected.{Call, Expression, operator_of, values_of}
 use Rattle.star_model.specs.Operators.{flavour_of}
 use Rattle.star_model.specs.PlanExprCases as expr
 use Rattle.star_model.specs.PlanExprCases.{made-Unary, made-Binary}
@@ -20,7 +19,7 @@ use Rattle.star_model.specs.declared.rules.RuleFile.{RuleFile}
 use Rattle.star_model.specs.declared.values.RuleValue.{RuleValue}
 use Rattle.dominance_prune.specs.Gathering.{Gathers, From, IsFrontier}
 use Rattle.lolepop.specs.Derived.{DerivedPlan, is_better_plan, derived_leaf, derived_unary, derived_binary}
-use Rattle.exchange.specs.Places.{IsDerived, IsBestOf, LeafWay, OverOne, OverTwo}
+use Rattle.exchange.specs.Places.{IsBestOf, LeafWay, OverOne, OverTwo}
 use Rattle.exchange.proofs.Laws.{leaf_exchange, unary_exchange, binary_exchange, nothing_is_best, binary_nothing, reference_exchange}
 
 -- an operator has the flavour of which it was made

@@ -1,6 +1,5 @@
 -- A loop over the members of a for-all name's range.
-use Rattle.std.proofs.Common.{◌≡◌, ℕ, ◌+◌, ◌<◌, List, [], ◌∷◌, ◌++◌, refl, ap, sym, ◌∙◌, subst, map, arith, append_assoc}
-use Rattle.std.specs.Prelude.{Contains}
+use Rattle.std.proofs.Common.{◌≡◌, ℕ, ◌+◌, List, [], ◌∷◌, ◌++◌, refl, ap, sym, ◌∙◌, subst, map, arith, append_assoc}
 use Prim.Native.Nat.{zero, suc}
 use Rattle.star_model.specs.Meaning.{numbers_of, member_at}
 use Rattle.star_model.specs.declared.query.Query.{Query}

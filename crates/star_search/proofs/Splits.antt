@@ -1,17 +1,17 @@
 -- What the splits of a goal make.
 use Rattle.star_model.specs.Expected.{Expected}
-use Rattle.std.proofs.Common.{◌≡◌, ℕ, ◌<◌, ◌^◌, Bool, true, false, nat_eq, List, [], ◌∷◌, ◌++◌, Result, Ok, Err, OnOk, Option, Some, None, refl, ap, sym, ◌∙◌, subst, arith}
+use Rattle.std.proofs.Common.{◌≡◌, ℕ, ◌<◌, ◌^◌, true, false, nat_eq, List, [], ◌∷◌, ◌++◌, Result, Ok, Err, OnOk, Option, Some, None, refl, ap, sym, ◌∙◌, subst, arith}
 use Rattle.std.specs.Prelude.{Contains}
 use Rattle.std.proofs.lemmas.List.Elements.{Contains-append_right}
 use Rattle.std.proofs.lemmas.Bool.{ne_eqb}
-use Rattle.star_model.specs.Expected.{ForGoal, Call, may_split, root_call}
+use Rattle.star_model.specs.Expected.{ForGoal, Call, may_split}
 use Rattle.star_model.specs.Sets.{size, splits}
 use Rattle.star_model.specs.declared.plans.Goal.{Goal}
 use Rattle.star_model.specs.declared.query.Query.{Query}
 use Rattle.star_model.specs.declared.rules.RuleFile.{RuleFile}
 use Rattle.star_model.specs.declared.values.RuleValue.{RuleValue}
 use Rattle.dominance_prune.specs.Antichains.{IsAntichain}
-use Rattle.dominance_prune.specs.Gathering.{Gathers, From, Passes}
+use Rattle.dominance_prune.specs.Gathering.{Gathers, From}
 use Rattle.lolepop.specs.Derived.{DerivedPlan, vector_of, is_better_plan, under_goal}
 use Rattle.exchange.specs.Places.{IsBestOf, ReachesTo, SplitWay}
 use Rattle.exchange.proofs.Laws.{split_exchange, one_exchange, several_exchange, split_listed}

@@ -37,7 +37,11 @@ fn listed(words: &[String]) -> Option<Command>
     match words {
         [] => None,
         [word, names @ ..] => {
-            if names.len() == 3 { named(word.as_str()) } else { None }
+            if names.len() == 3 {
+                named(word.as_str())
+            } else {
+                None
+            }
         }
     }
 }

@@ -1,4 +1,4 @@
-use Rattle.std.proofs.Common.{◌∙◌, sym, ◌≡◌, Option, Some}
+use Rattle.std.proofs.Common.{sym, ◌≡◌, Some}
 use Rattle.star_model.specs.Stars.{star_named}
 use Rattle.star_model.specs.Vectors.{same_numbers}
 use Rattle.star_model.specs.declared.rules.StarDef.{StarDef}

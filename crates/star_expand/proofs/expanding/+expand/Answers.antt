@@ -1,4 +1,4 @@
-use Rattle.std.proofs.Common.{arith, ◌≡◌, ◌∙◌, sym, ap, subst, ℕ, ◌+◌, ◌-◌, ◌^◌, List, Some, None, length}
+use Rattle.std.proofs.Common.{arith, ◌∙◌, sym, subst, ℕ, List}
 use Rattle.std.specs.Prelude.{Contains}
 use Rattle.star_model.specs.Sets.{splits}
 use Rattle.star_model.specs.Splits.{splits_left}

@@ -1,9 +1,9 @@
-use Rattle.std.proofs.Common.{arith, sym, ap, ◌∙◌, ◌≡◌, ℕ, ◌<◌, ◌≤◌, ◌+◌, ◌*◌, List, [], ◌∷◌, length, subst, Some}
+use Rattle.std.proofs.Common.{arith, sym, ap, ◌∙◌, List, [], length, subst}
 use Rattle.star_model.specs.Expected.{values_of}
 use Rattle.dominance_prune.specs.Gathering.{Gathers}
 use Rattle.lolepop.specs.Derived.{DerivedPlan, is_better_plan}
 use Rattle.exchange.proofs.Laws.{accepted_pass, body_exchange}
-use Rattle.search_places.proofs.Laws.{input_part, left_part, right_part, reference_part, few_arguments, few_alternatives, to_alternative, member_bound, to_body, body_is_lower}
+use Rattle.search_places.proofs.Laws.{input_part, left_part, right_part, reference_part, few_arguments, few_alternatives, member_bound, to_body, body_is_lower}
 use Rattle.star_search.proofs.Operators.{leaf_done, unary_done, binary_done, binary_none, reference_done}
 use Rattle.star_search.proofs.Ranges.{member_more, members_done}
 use Rattle.star_search.proofs.Alternatives.{FirstWays, next_alternative, none_seen, one_seen, all_seen, none_called}

@@ -1,4 +1,3 @@
-use Rattle.dominance_prune.specs.Gathering.{Gathers, From}
 use Rattle.star_search.proofs.Splits.{split_done, root_leads, on_ok}
 use Rattle.star_search.proofs.goals.add_split.Goals as goal
 
