@@ -144,7 +144,8 @@ complete Done words shelf shelf' out out' err err' answered r c q rules query to
     let a = rw told.listed at answered in
     let b = subst (λ (x : Option Files). IsAnswered told.command x (requests_of told.command words) Planned a.2.0) told.told a.2.1 in
     let p = same_answer told.command told.files words r c q rules query Planned a.2.0 told.held told.says b in
-    inr (inl (refl, has_plan told.command rules query a.2.0 told.says.formed told.says.accepted p))
+    let root = has_plan told.command rules query a.2.0 told.says.formed told.says.accepted p in
+    inr (inl (refl, root.0, root.1, root.2))
 complete NoPlan words shelf shelf' out out' err err' answered r c q rules query told quiet_shelf quiet_out =
     let a = rw told.listed at answered in
     let b = subst (λ (x : Option Files). IsAnswered told.command x (requests_of told.command words) Unplanned a.2.0) told.told a.2.1 in

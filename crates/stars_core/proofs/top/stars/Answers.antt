@@ -34,6 +34,12 @@ pub returns-in-Ok-clause-refused : goal.returns-in-Ok-clause-refused
 returns-in-Ok-clause-refused g c =
     refused_exactly WriteFault (bytes_of c.args.words.now) _ _ (g.O.Sink.state c.args.out.now) (g.O.Sink.state c.emit.new.out) _ _ (returns-in-Ok-clause-answer g c)
 
+pub returns-clause-answer : goal.returns-clause-answer
+returns-clause-answer g c =
+    rw c.status.ensures
+    (answered_at (bytes_of c.args.words.now) c.in-Err.refusal (command_of (bytes_of c.args.words.now)) _ _ (g.O.Sink.state c.args.out.now) _ _ refl c.in-Err.ensures
+    (rw c.line.ensures at c.tell-in-Err.ensures))
+
 pub returns-clause-refused : goal.returns-clause-refused
 returns-clause-refused g c =
     let answered =
