@@ -1,3 +1,4 @@
 mod CanonWalks
 mod Antisymmetry
+mod CostsFirst
 pub mod Laws
