@@ -8,7 +8,7 @@ use Rattle.stars_core.specs.declared.command.Command.{Command}
 use Rattle.stars_core.specs.declared.refusal.TextKind.TheVariants.{Rules, Catalogue, Query}
 use Rattle.stars_core.specs.declared.refusal.Refusal.{Refusal}
 use Rattle.stars_core.specs.declared.refusal.Refusal.TheVariants.{Usage, Unread, Refused, Memory}
-use Rattle.stars_core.specs.declared.status.Found.{Found}
+use Rattle.stars_core.specs.declared.status.Ending.{Ending}
 use Rattle.stars_core.specs.declared.status.Status.TheVariants as statuses
 use Rattle.stars_core.specs.declared.answer.Answer.{Answer}
 use Rattle.stars_core.specs.CommandLine.{CommandLine, command_of, requests_of}
@@ -32,16 +32,16 @@ answered_at words (Refused Query line) (Some command) shelf shelf' out err err' 
 answered_at words Memory (Some command) shelf shelf' out err err' is composed put = (refl, line_of Memory, (rw is refl, refl), put)
 
 -- all was put out
-pub output_at : (found : Found) (words : CommandLine) (command : Option Command) (shelf shelf' : ShelfState) (out out' err : SinkState) (answer : Answer)
-    → command_of words ≡ command → Composed shelf shelf' words command (Ok answer) → answer.found ≡ found
+pub output_at : (ending : Ending) (words : CommandLine) (command : Option Command) (shelf shelf' : ShelfState) (out out' err : SinkState) (answer : Answer)
+    → command_of words ≡ command → Composed shelf shelf' words command (Ok answer) → answer.ending ≡ ending
     → RoseAtMost 1 out.puts out'.puts → Adds out.taken answer.text.items out'.taken → out'.faults ≡ out.faults
-    → Output found words shelf shelf' out out' err err
-output_at found words None shelf shelf' out out' err answer is composed ends puts added same = absurd cc
-output_at found words (Some command) shelf shelf' out out' err answer is composed ends puts added same =
+    → Output ending words shelf shelf' out out' err err
+output_at ending words None shelf shelf' out out' err answer is composed ends puts added same = absurd cc
+output_at ending words (Some command) shelf shelf' out out' err answer is composed ends puts added same =
     rw is (
       composed.1.0,
       answer.text.items ∷ [],
-      (answer.text.items, subst (λ (f : Found). IsAnswered command shelf.held (requests_of command words) f answer.text.items) ends composed.1.1, refl),
+      (answer.text.items, subst (λ (f : Ending). IsAnswered command shelf.held (requests_of command words) f answer.text.items) ends composed.1.1, refl),
       record { added = rw append-nil added; faults = same; puts = puts; silent = refl },
     )
 
@@ -54,7 +54,7 @@ part_at words None shelf shelf' out out' err err' answer is composed puts added 
 part_at words (Some command) shelf shelf' out out' err err' answer is composed puts added rose put =
     rw is (
       composed.1.0,
-      answer.found,
+      answer.ending,
       answer.text.items ∷ [],
       (answer.text.items, composed.1.1, refl),
       record { added = rw append-nil added; rose = rose; puts = puts; told = put },

@@ -4,9 +4,7 @@ use Rattle.std.specs.Prelude.{slice_get}
 use Rattle.std.proofs.lemmas.List.{append-nil, append_assoc}
 use Rattle.sb_outside.specs.Shelf.{Files, ShelfState}
 use Rattle.sb_outside.specs.Sink.{SinkState}
-use Rattle.star_model.specs.Accepted.{IsAccepted}
 use Rattle.star_model.specs.Derivations.{IsRoot}
-use Rattle.star_model.specs.WellFormed.{WellFormedQuery}
 use Rattle.star_model.specs.declared.derivations.Deriv.{Deriv}
 use Rattle.star_model.specs.declared.plans.Props.{Props}
 use Rattle.star_model.specs.declared.rules.RuleFile.{RuleFile}
@@ -15,18 +13,18 @@ use Rattle.stars_core.specs.declared.command.Command.{Command}
 use Rattle.stars_core.specs.declared.command.Command.TheVariants as commands
 use Rattle.stars_core.specs.declared.refusal.TextKind.{TextKind}
 use Rattle.stars_core.specs.declared.refusal.TextKind.TheVariants as kinds
-use Rattle.stars_core.specs.declared.status.Found.{Found}
-use Rattle.stars_core.specs.declared.status.Found.TheVariants.{Planned, Unplanned}
+use Rattle.stars_core.specs.declared.status.Ending.{Ending}
+use Rattle.stars_core.specs.declared.status.Ending.TheVariants as endings
 use Rattle.stars_core.specs.declared.status.Status.{Status}
 use Rattle.stars_core.specs.declared.status.Status.TheVariants.{Done, NoPlan, Usage, RulesRefused, CatalogueRefused, QueryRefused, TableRefused, ReadFault, WriteFault, Memory, NotDerived, DerivationRefused, SessionRefused, CertificateRefused}
 use Rattle.stars_core.specs.CommandLine.{CommandLine, Request, command_of, requests_of}
 use Rattle.stars_core.specs.Lines.{refused_status}
 use Rattle.stars_core.specs.Given.{Given}
 use Rattle.stars_core.specs.Faults.{Stops, PassAll}
-use Rattle.stars_core.specs.Plan.{HasNoPlan}
-use Rattle.stars_core.specs.ThreeTexts.{Says, AnswerText, three}
+use Rattle.stars_core.specs.Plan.{PlanText}
+use Rattle.stars_core.specs.Saying.{Saying, Says, AnswerText}
 use Rattle.stars_core.specs.Shelves.{HeldAs, RefusedAt, IsAnswered, Puts}
-use Rattle.stars_core.specs.Answers.{OfCommand, Answered, Complete, RefusedExactly, StopTold, LinePut}
+use Rattle.stars_core.specs.Answers.{OfCommand, Answered, Complete, AllTold, Ends, RefusedExactly, StopTold, LinePut}
 use Rattle.stars_core.proofs.Says.{one_reading}
 use Rattle.stars_core.proofs.FaultLaws.{one_stop, stopped_passes}
 use Rattle.plan_choice.proofs.Laws.{some_listed}
@@ -108,78 +106,89 @@ refused_none : (kind : TextKind) (shelf shelf' : ShelfState) (requests : List Re
 refused_none kind shelf shelf' requests line files given t told held pass =
     none_stops files [] requests given t.0 t.1 t.2 t.3 line held pass t.4.here (rw told at t.4.held) (rw told at t.6.told) t.6.stops
 
-same_bytes : (files : Files) (name b d : List ℕ) → files name ≡ Some b → files name ≡ Some d → b ≡ d
-same_bytes files name b d e f = let g : Some b ≡ Some d = sym e ∙ f in cc
-
-moved : (r r' c c' q q' : List ℕ) (rules : RuleFile) (query : QueryTree) → r ≡ r' → c ≡ c' → q ≡ q' → Says r c q rules query → Says r' c' q' rules query
-moved r r' c c' q q' rules query e f g says =
-    subst (λ (x : List ℕ). Says x c' q' rules query) e (subst (λ (x : List ℕ). Says r x q' rules query) f (subst (λ (x : List ℕ). Says r c x rules query) g says))
+-- what is held by the names of some requests is one list of texts
+same_texts : (files : Files) (requests : List Request) (given other : List Given) → HeldAs (Some files) requests given → HeldAs (Some files) requests other → given ≡ other
+same_texts files [] [] [] held held' = refl
+same_texts files [] [] (h ∷ other) held held' = absurd held'
+same_texts files [] (g ∷ given) other held held' = absurd held
+same_texts files (a ∷ requests) [] other held held' = absurd held
+same_texts files (a ∷ requests) (g ∷ given) [] held held' = absurd held'
+same_texts files (a ∷ requests) (g ∷ given) (h ∷ other) held held' =
+    let first : g ≡ h = same_given a files g h held.0 held.1 held'.0 held'.1 in
+    let later : given ≡ other = same_texts files requests given other held.2 held'.2 in cc
 
 -- what is answered of told texts is answered of what they say
-same_answer : (command : Command) (files : Files) (words : CommandLine) (r c q : List ℕ) (rules : RuleFile) (query : QueryTree) (found : Found) (text : List ℕ)
-    → HeldAs (Some files) (requests_of command words) (three r c q) → Says r c q rules query → IsAnswered command (Some files) (requests_of command words) found text
-    → AnswerText command rules query found text
-same_answer command files words r c q rules query found text held says a =
-    let held' = a.3.held in
-    let e : r ≡ a.0 = same_bytes files _ r a.0 held.1 held'.1 in
-    let f : c ≡ a.1 = same_bytes files _ c a.1 held.2.1 held'.2.1 in
-    let g : q ≡ a.2 = same_bytes files _ q a.2 held.2.2.1 held'.2.2.1 in
-    let is = a.4 in
-    let one = one_reading a.0 a.1 a.2 is.rules rules is.query query is.says (moved r a.0 c a.1 q a.2 rules query e f g says) in
-    subst (λ (x : RuleFile). AnswerText command x query found text) one.0 (subst (λ (y : QueryTree). AnswerText command is.rules y found text) one.1 is.answer)
+same_answer : (command : Command) (files : Files) (requests : List Request) (given : List Given) (saying : Saying command) (ending : Ending) (text : List ℕ)
+    → HeldAs (Some files) requests given → Says command given saying → IsAnswered command (Some files) requests ending text
+    → AnswerText command saying ending text
+same_answer command files requests given saying ending text held says a =
+    let is = a.3 in
+    let texts : a.0 ≡ given = same_texts files requests a.0 given a.1 held in
+    let says' : Says command given is.saying = subst (λ (g : List Given). Says command g is.saying) texts is.says in
+    subst (λ (x : Saying command). AnswerText command x ending text) (one_reading command given is.saying saying says' says) is.answer
 
--- a command that finds something has a plan behind it
-has_plan : (command : Command) (rules : RuleFile) (query : QueryTree) (text : List ℕ) → WellFormedQuery query → IsAccepted rules → AnswerText command rules query Planned text
-    → (d : Deriv) × (v : Props) × IsRoot query rules d v
-has_plan commands.Plan rules query text formed accepted answer = (answer.0, answer.1, answer.2.root)
-has_plan commands.Frontier rules query text formed accepted answer = some_listed query rules formed accepted answer.0 answer.1 answer.2
+-- a command that ends with a plan has one behind it
+has_plan : (rules : RuleFile) (query : QueryTree) (text : List ℕ) → PlanText rules query endings.Done text → (d : Deriv) × (v : Props) × IsRoot query rules d v
+has_plan rules query text answer = (answer.0, answer.1, answer.2.root)
 
-has_none : (command : Command) (rules : RuleFile) (query : QueryTree) (text : List ℕ) → AnswerText command rules query Unplanned text → HasNoPlan rules query
-has_none commands.Plan rules query text answer = answer.0
-has_none commands.Frontier rules query text answer = answer.0
+-- what has to be put where the command is done
+done_ends : (command : Command) (given : List Given) (saying : Saying command) (text : List ℕ) → Says command given saying → AnswerText command saying endings.Done text → Ends command saying Done
+done_ends commands.Check given rules text says answer = refl
+done_ends commands.Plan given saying text says answer = inl (refl, has_plan saying.0 saying.1 text answer)
+done_ends commands.Frontier given saying text says answer =
+    inl (refl, some_listed saying.1 saying.0 says.formed says.of_rules.accepted answer.0 answer.1 answer.2)
+
+-- and where there is no plan
+none_ends : (command : Command) (saying : Saying command) (text : List ℕ) → AnswerText command saying endings.NoPlan text → Ends command saying NoPlan
+none_ends commands.Check rules text answer = let e : endings.NoPlan ≡ endings.Done = answer.0 in absurd cc
+none_ends commands.Plan saying text answer = inr (refl, answer.0)
+none_ends commands.Frontier saying text answer = inr (refl, answer.0)
+
+-- a text that is refused where all that are asked for are accepted
+refused_told : (kind : TextKind) (words : CommandLine) (shelf shelf' : ShelfState) (line : List ℕ) (command : Command) (given : List Given) (saying : Saying command)
+    → AllTold words shelf command given saying → OfCommand words (λ c. RefusedAt shelf shelf' (requests_of c words) kind line) → ⊥
+refused_told kind words shelf shelf' line command given saying told refused =
+    refused_none kind shelf shelf' (requests_of command words) line told.files given (rw told.listed at refused) told.told told.held told.accepted
 
 pub complete : (status : Status) (words : CommandLine) (shelf shelf' : ShelfState) (out out' err err' : SinkState) → Answered status words shelf shelf' out out' err err'
     → Complete status words shelf shelf' out out'
-complete Done words shelf shelf' out out' err err' answered r c q rules query told quiet_shelf quiet_out =
+complete Done words shelf shelf' out out' err err' answered command given saying told quiet_shelf quiet_out =
     let a = rw told.listed at answered in
-    let b = subst (λ (x : Option Files). IsAnswered told.command x (requests_of told.command words) Planned a.2.0) told.told a.2.1 in
-    let p = same_answer told.command told.files words r c q rules query Planned a.2.0 told.held told.says b in
-    let root = has_plan told.command rules query a.2.0 told.says.formed told.says.accepted p in
-    inr (inl (refl, root.0, root.1, root.2))
-complete NoPlan words shelf shelf' out out' err err' answered r c q rules query told quiet_shelf quiet_out =
+    let b = subst (λ (x : Option Files). IsAnswered command x (requests_of command words) endings.Done a.2.0) told.told a.2.1 in
+    inr (done_ends command given saying a.2.0 told.says (same_answer command told.files (requests_of command words) given saying endings.Done a.2.0 told.held told.says b))
+complete NoPlan words shelf shelf' out out' err err' answered command given saying told quiet_shelf quiet_out =
     let a = rw told.listed at answered in
-    let b = subst (λ (x : Option Files). IsAnswered told.command x (requests_of told.command words) Unplanned a.2.0) told.told a.2.1 in
-    let p = same_answer told.command told.files words r c q rules query Unplanned a.2.0 told.held told.says b in
-    inr (inr (refl, has_none told.command rules query a.2.0 p))
-complete Usage words shelf shelf' out out' err err' answered r c q rules query told quiet_shelf quiet_out =
-    let e : Some told.command ≡ None = sym told.listed ∙ answered.2.0 in absurd cc
-complete RulesRefused words shelf shelf' out out' err err' answered r c q rules query told quiet_shelf quiet_out =
-    absurd (refused_none kinds.Rules shelf shelf' (requests_of told.command words) answered.1 told.files (three r c q) (rw told.listed at answered.2) told.told told.held told.accepted)
-complete CatalogueRefused words shelf shelf' out out' err err' answered r c q rules query told quiet_shelf quiet_out =
-    absurd (refused_none kinds.Catalogue shelf shelf' (requests_of told.command words) answered.1 told.files (three r c q) (rw told.listed at answered.2) told.told told.held told.accepted)
-complete QueryRefused words shelf shelf' out out' err err' answered r c q rules query told quiet_shelf quiet_out =
-    absurd (refused_none kinds.Query shelf shelf' (requests_of told.command words) answered.1 told.files (three r c q) (rw told.listed at answered.2) told.told told.held told.accepted)
-complete ReadFault words shelf shelf' out out' err err' answered r c q rules query told quiet_shelf quiet_out =
+    let b = subst (λ (x : Option Files). IsAnswered command x (requests_of command words) endings.NoPlan a.2.0) told.told a.2.1 in
+    inr (none_ends command saying a.2.0 (same_answer command told.files (requests_of command words) given saying endings.NoPlan a.2.0 told.held told.says b))
+complete Usage words shelf shelf' out out' err err' answered command given saying told quiet_shelf quiet_out =
+    let e : Some command ≡ None = sym told.listed ∙ answered.2.0 in absurd cc
+complete RulesRefused words shelf shelf' out out' err err' answered command given saying told quiet_shelf quiet_out =
+    absurd (refused_told kinds.Rules words shelf shelf' answered.1 command given saying told answered.2)
+complete CatalogueRefused words shelf shelf' out out' err err' answered command given saying told quiet_shelf quiet_out =
+    absurd (refused_told kinds.Catalogue words shelf shelf' answered.1 command given saying told answered.2)
+complete QueryRefused words shelf shelf' out out' err err' answered command given saying told quiet_shelf quiet_out =
+    absurd (refused_told kinds.Query words shelf shelf' answered.1 command given saying told answered.2)
+complete ReadFault words shelf shelf' out out' err err' answered command given saying told quiet_shelf quiet_out =
     let u = rw told.listed at answered.2 in absurd (quiet_shelf u.4.rose)
-complete WriteFault words shelf shelf' out out' err err' answered r c q rules query told quiet_shelf quiet_out =
+complete WriteFault words shelf shelf' out out' err err' answered command given saying told quiet_shelf quiet_out =
     let a = rw told.listed at answered in absurd (quiet_out a.4.rose)
-complete Memory words shelf shelf' out out' err err' answered r c q rules query told quiet_shelf quiet_out = inl refl
-complete TableRefused words shelf shelf' out out' err err' answered r c q rules query told quiet_shelf quiet_out = absurd answered.2
-complete NotDerived words shelf shelf' out out' err err' answered r c q rules query told quiet_shelf quiet_out = absurd answered.2
-complete DerivationRefused words shelf shelf' out out' err err' answered r c q rules query told quiet_shelf quiet_out = absurd answered.2
-complete SessionRefused words shelf shelf' out out' err err' answered r c q rules query told quiet_shelf quiet_out = absurd answered.2
-complete CertificateRefused words shelf shelf' out out' err err' answered r c q rules query told quiet_shelf quiet_out = absurd answered.2
+complete Memory words shelf shelf' out out' err err' answered command given saying told quiet_shelf quiet_out = inl refl
+complete TableRefused words shelf shelf' out out' err err' answered command given saying told quiet_shelf quiet_out = absurd answered.2
+complete NotDerived words shelf shelf' out out' err err' answered command given saying told quiet_shelf quiet_out = absurd answered.2
+complete DerivationRefused words shelf shelf' out out' err err' answered command given saying told quiet_shelf quiet_out = absurd answered.2
+complete SessionRefused words shelf shelf' out out' err err' answered command given saying told quiet_shelf quiet_out = absurd answered.2
+complete CertificateRefused words shelf shelf' out out' err err' answered command given saying told quiet_shelf quiet_out = absurd answered.2
 
 -- what is put out is put of texts that are accepted
-puts_pass : (command : Command) (told : Option Files) (words : CommandLine) (found : Found) (pieces : List (List ℕ)) → Puts command told words found pieces
+puts_pass : (command : Command) (told : Option Files) (words : CommandLine) (ending : Ending) (pieces : List (List ℕ)) → Puts command told words ending pieces
     → (given : List Given) × HeldAs told (requests_of command words) given × PassAll [] given
-puts_pass command told words found pieces puts =
-    let a = puts.1 in (three a.0 a.1 a.2, a.3.held, a.3.accepted)
+puts_pass command told words ending pieces puts =
+    let a = puts.1 in (a.0, a.1, a.2)
 
-stop_none : (words : CommandLine) (shelf : ShelfState) (place : ℕ) (this : Request) (earlier : List Given) (bytes line : List ℕ) (found : Found) (pieces : List (List ℕ))
-    → (st : StopTold words shelf place this earlier bytes line) → Puts st.command shelf.held words found pieces → ⊥
-stop_none words shelf place this earlier bytes line found pieces st puts =
-    let g = puts_pass st.command (Some st.files) words found pieces (subst (λ (x : Option Files). Puts st.command x words found pieces) st.told puts) in
+stop_none : (words : CommandLine) (shelf : ShelfState) (place : ℕ) (this : Request) (earlier : List Given) (bytes line : List ℕ) (ending : Ending) (pieces : List (List ℕ))
+    → (st : StopTold words shelf place this earlier bytes line) → Puts st.command shelf.held words ending pieces → ⊥
+stop_none words shelf place this earlier bytes line ending pieces st puts =
+    let g = puts_pass st.command (Some st.files) words ending pieces (subst (λ (x : Option Files). Puts st.command x words ending pieces) st.told puts) in
     none_stops st.files [] (requests_of st.command words) g.0 place this earlier bytes line g.1 g.2 st.here st.held st.bytes_held st.stops
 
 refused_same : (kind : TextKind) (words : CommandLine) (shelf shelf' : ShelfState) (err err' : SinkState) (place : ℕ) (this : Request) (earlier : List Given) (bytes line line' : List ℕ)
@@ -196,9 +205,9 @@ refused_same kind words shelf shelf' err err' place this earlier bytes line line
 pub refused_exactly : (status : Status) (words : CommandLine) (shelf shelf' : ShelfState) (out out' err err' : SinkState) → Answered status words shelf shelf' out out' err err'
     → RefusedExactly status words shelf shelf' err err'
 refused_exactly Done words shelf shelf' out out' err err' answered place this earlier bytes line st quiet =
-    let a = rw st.listed at answered in absurd (stop_none words shelf place this earlier bytes line Planned a.1 st a.2)
+    let a = rw st.listed at answered in absurd (stop_none words shelf place this earlier bytes line endings.Done a.1 st a.2)
 refused_exactly NoPlan words shelf shelf' out out' err err' answered place this earlier bytes line st quiet =
-    let a = rw st.listed at answered in absurd (stop_none words shelf place this earlier bytes line Unplanned a.1 st a.2)
+    let a = rw st.listed at answered in absurd (stop_none words shelf place this earlier bytes line endings.NoPlan a.1 st a.2)
 refused_exactly WriteFault words shelf shelf' out out' err err' answered place this earlier bytes line st quiet =
     let a = rw st.listed at answered in absurd (stop_none words shelf place this earlier bytes line a.1 a.2 st a.3)
 refused_exactly Usage words shelf shelf' out out' err err' answered place this earlier bytes line st quiet =

@@ -5,8 +5,8 @@ pub mod Causes
 mod Endings
 pub mod Derived
 pub mod Says
-pub mod ThreeTexts
-mod ThreeFiles
+pub mod Cases
+pub mod OneFile
 mod LimitsKept
 mod TinyAccepted
 mod TinyRules

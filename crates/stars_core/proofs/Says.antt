@@ -6,23 +6,35 @@ use Rattle.star_model.specs.declared.rules.RuleFile.{RuleFile}
 use Rattle.spelling.specs.Catalogues.{SpellsCatalogue}
 use Rattle.spelling.specs.Queries.{SpellsQuery}
 use Rattle.spelling.proofs.Laws.{one_rule_file, one_catalogue, one_query, keeps_catalogue}
+use Rattle.stars_core.specs.declared.command.Command.{Command}
+use Rattle.stars_core.specs.declared.command.Command.TheVariants.{Check, Plan, Frontier}
+use Rattle.stars_core.specs.Given.{Given}
 use Rattle.stars_core.specs.Judging.{RulesPass, CataloguePasses, QueryPasses}
-use Rattle.stars_core.specs.ThreeTexts.{Says}
+use Rattle.stars_core.specs.Saying.{Saying, Says, SaysRules, SaysCase, text_at}
 
-pub says : (r c q : List ℕ) (rules : RuleFile) (catalogue : CatalogueTree) (query : QueryTree) → RulesPass r rules → CataloguePasses c catalogue → QueryPasses catalogue q query → Says r c q rules query
-says r c q rules catalogue query by over_text of =
+pub says_rules : (r : List ℕ) (rules : RuleFile) → RulesPass r rules → SaysRules r rules
+says_rules r rules pass = record { of_rules = pass.read.spells; accepted = pass.accepted }
+
+pub says_case : (r c q : List ℕ) (rules : RuleFile) (catalogue : CatalogueTree) (query : QueryTree) → RulesPass r rules → CataloguePasses c catalogue → QueryPasses catalogue q query
+    → SaysCase r c q rules query
+says_case r c q rules catalogue query by over_text of =
     let over : query.catalogue ≡ catalogue = keeps_catalogue catalogue q query of.read.spells in
     record {
-      of_rules = by.read.spells;
+      of_rules = says_rules r rules by;
       of_catalogue = subst (λ (x : CatalogueTree). SpellsCatalogue c x) (sym over) over_text.read.spells;
       of_query = subst (λ (x : CatalogueTree). SpellsQuery x q query) (sym over) of.read.spells;
-      accepted = by.accepted;
       formed = of.read.formed;
     }
 
--- three texts say at most one rule file and one query
-pub one_reading : (r c q : List ℕ) (a b : RuleFile) (x y : QueryTree) → Says r c q a x → Says r c q b y → (a ≡ b) × (x ≡ y)
-one_reading r c q a b x y p p' =
+one_case : (r c q : List ℕ) (a b : RuleFile × QueryTree) → SaysCase r c q a.0 a.1 → SaysCase r c q b.0 b.1 → a ≡ b
+one_case r c q (a, x) (b, y) p p' =
     let catalogues : x.catalogue ≡ y.catalogue = one_catalogue c x.catalogue y.catalogue p.of_catalogue p'.of_catalogue in
     let of : SpellsQuery y.catalogue q x = subst (λ (k : CatalogueTree). SpellsQuery k q x) catalogues p.of_query in
-    (one_rule_file r a b p.of_rules p'.of_rules, one_query y.catalogue q x y of p'.of_query)
+    let rules : a ≡ b = one_rule_file r a b p.of_rules.of_rules p'.of_rules.of_rules in
+    let queries : x ≡ y = one_query y.catalogue q x y of p'.of_query in cc
+
+-- texts say at most one thing to a command
+pub one_reading : (command : Command) (given : List Given) (a b : Saying command) → Says command given a → Says command given b → a ≡ b
+one_reading Check given a b p p' = one_rule_file (text_at given 0) a b p.of_rules p'.of_rules
+one_reading Plan given a b p p' = one_case (text_at given 0) (text_at given 1) (text_at given 2) a b p p'
+one_reading Frontier given a b p p' = one_case (text_at given 0) (text_at given 1) (text_at given 2) a b p p'

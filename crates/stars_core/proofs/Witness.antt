@@ -36,8 +36,8 @@ use Rattle.stars_core.specs.CommandLine.{CommandLine, command_of}
 use Rattle.stars_core.specs.Judging.{CataloguePasses, QueryPasses}
 use Rattle.stars_core.specs.Answers.{Answered, DoneSays, SomeTold}
 use Rattle.stars_core.proofs.TinyRules.{tiny_text, tiny_passes}
-use Rattle.stars_core.proofs.ThreeTexts.{three_pass}
-use Rattle.stars_core.proofs.Says.{says}
+use Rattle.stars_core.proofs.Cases.{three_pass}
+use Rattle.stars_core.proofs.Says.{says_case}
 
 pub done_says : (words : CommandLine) (shelf shelf' : ShelfState) (out out' err err' : SinkState) → Answered Done words shelf shelf' out out' err err' → DoneSays words out out'
 done_says words shelf shelf' out out' err err' answered = at_command (command_of words) refl answered
@@ -48,7 +48,7 @@ done_says words shelf shelf' out out' err err' answered = at_command (command_of
         let b = rw is at a in
         let answer = b.2.1 in
         let added = subst (λ (ps : List (List ℕ)). Adds out.taken (concat ps) out'.taken) b.2.2 b.3.added in
-        rw is (answer.0, answer.1, answer.2, b.2.0, answer.4, rw append-nil at added)
+        rw is (answer.0, b.2.0, answer.3, rw append-nil at added)
 
 -- ---- three texts
 
@@ -284,18 +284,14 @@ some_told =
     let shelf : ShelfState = record { held = Some files; faults = 0; calls = 0; taken = 0; last_failed = None } in (
       words,
       shelf,
-      tiny_text,
-      catalogue_text,
-      query_text,
-      tiny_rules,
-      query,
+      three tiny_text catalogue_text query_text,
+      (tiny_rules, query),
       record {
         files = files;
         told = refl;
-        command = Plan;
         listed = refl;
         held = (refl, refl, (refl, refl, (refl, refl, tt)));
         accepted = three_pass tiny_text catalogue_text query_text tiny_rules catalogue query tiny_passes catalogue_passes query_passes;
-        says = says tiny_text catalogue_text query_text tiny_rules catalogue query tiny_passes catalogue_passes query_passes;
+        says = says_case tiny_text catalogue_text query_text tiny_rules catalogue query tiny_passes catalogue_passes query_passes;
       },
     )

@@ -10,17 +10,18 @@ use Rattle.star_model.specs.declared.query.Query.{Query as QueryTree}
 use Rattle.star_model.specs.declared.derivations.Deriv.{Deriv}
 use Rattle.star_model.specs.declared.plans.Props.{Props}
 use Rattle.stars_core.specs.declared.command.Command.{Command}
+use Rattle.stars_core.specs.declared.command.Command.TheVariants as commands
 use Rattle.stars_core.specs.declared.refusal.TextKind.{TextKind}
 use Rattle.stars_core.specs.declared.refusal.TextKind.TheVariants as kinds
-use Rattle.stars_core.specs.declared.status.Found.{Found}
-use Rattle.stars_core.specs.declared.status.Found.TheVariants.{Planned, Unplanned}
+use Rattle.stars_core.specs.declared.status.Ending.{Ending}
+use Rattle.stars_core.specs.declared.status.Ending.TheVariants as endings
 use Rattle.stars_core.specs.declared.status.Status.{Status}
 use Rattle.stars_core.specs.declared.status.Status.TheVariants.{Done, NoPlan, Usage, RulesRefused, CatalogueRefused, QueryRefused, ReadFault, WriteFault, Memory}
 use Rattle.stars_core.specs.CommandLine.{CommandLine, Request, command_of, requests_of}
 use Rattle.stars_core.specs.Lines.{usage_line, cannot_write, out_of_memory, refused_status}
 use Rattle.stars_core.specs.Given.{Given}
 use Rattle.stars_core.specs.Faults.{Stops, PassAll}
-use Rattle.stars_core.specs.ThreeTexts.{Says, IsAnswer, three}
+use Rattle.stars_core.specs.Saying.{Saying, Says, IsAnswer}
 use Rattle.stars_core.specs.Shelves.{HeldAs, RefusedAt, UnreadAt, Puts}
 
 -- the words are a listed form, and P holds of the command
@@ -63,41 +64,46 @@ pub record PartPut (pieces : List (List ℕ)) (out out' err err' : SinkState) : 
   pub puts : RoseAtMost (length pieces) out.puts out'.puts
   pub told : LinePut err err' cannot_write
 
-abbrev pub Output : Found → CommandLine → ShelfState → ShelfState → SinkState → SinkState → SinkState → SinkState → Type 0
-Output found words shelf shelf' out out' err err' = OfCommand words (λ command.
-    NoFault shelf shelf' × (pieces : List (List ℕ)) × Puts command shelf.held words found pieces × AllPut pieces out out' err err')
+abbrev pub Output : Ending → CommandLine → ShelfState → ShelfState → SinkState → SinkState → SinkState → SinkState → Type 0
+Output ending words shelf shelf' out out' err err' = OfCommand words (λ command.
+    NoFault shelf shelf' × (pieces : List (List ℕ)) × Puts command shelf.held words ending pieces × AllPut pieces out out' err err')
 
 -- each status, with its cause and with what it puts
 abbrev pub Answered : Status → CommandLine → ShelfState → ShelfState → SinkState → SinkState → SinkState → SinkState → Type 0
-Answered Done words shelf shelf' out out' err err' = Output Planned words shelf shelf' out out' err err'
-Answered NoPlan words shelf shelf' out out' err err' = Output Unplanned words shelf shelf' out out' err err'
+Answered Done words shelf shelf' out out' err err' = Output endings.Done words shelf shelf' out out' err err'
+Answered NoPlan words shelf shelf' out out' err err' = Output endings.NoPlan words shelf shelf' out out' err err'
 Answered WriteFault words shelf shelf' out out' err err' = OfCommand words (λ command.
-    NoFault shelf shelf' × (found : Found) × (pieces : List (List ℕ)) × Puts command shelf.held words found pieces × PartPut pieces out out' err err')
+    NoFault shelf shelf' × (ending : Ending) × (pieces : List (List ℕ)) × Puts command shelf.held words ending pieces × PartPut pieces out out' err err')
 Answered status words shelf shelf' out out' err err' =
     (out' ≡ out) × (line : List ℕ) × Caused status words shelf shelf' line × LinePut err err' line
 
 -- how planning has to end
-abbrev pub Ends : RuleFile → QueryTree → Status → Type 0
-Ends rules query status =
+abbrev pub PlanEnds : RuleFile → QueryTree → Status → Type 0
+PlanEnds rules query status =
     ((status ≡ Done) × (d : Deriv) × (v : Props) × IsRoot query rules d v)
     ⊎ ((status ≡ NoPlan) × ((d : Deriv) (v : Props) → IsRoot query rules d v → ⊥))
 
--- three files that the shelf tells, and what they say
-pub record AllTold (words : CommandLine) (shelf : ShelfState) (r c q : List ℕ) (rules : RuleFile) (query : QueryTree) : Type 0 where
+-- how each command has to end, by what its texts say
+abbrev pub Ends : (command : Command) → Saying command → Status → Type 0
+Ends commands.Check rules status = status ≡ Done
+Ends commands.Plan saying status = PlanEnds saying.0 saying.1 status
+Ends commands.Frontier saying status = PlanEnds saying.0 saying.1 status
+
+-- all files of a command that the shelf tells, and what they say
+pub record AllTold (words : CommandLine) (shelf : ShelfState) (command : Command) (given : List Given) (saying : Saying command) : Type 0 where
   pub files : Files
   pub told : shelf.held ≡ Some files
-  pub command : Command
   pub listed : command_of words ≡ Some command
-  pub held : HeldAs (Some files) (requests_of command words) (three r c q)
-  pub accepted : PassAll [] (three r c q)
-  pub says : Says r c q rules query
+  pub held : HeldAs (Some files) (requests_of command words) given
+  pub accepted : PassAll [] given
+  pub says : Says command given saying
 
--- Where three files are told that say something, and nothing fails, planning ends.
+-- Where all files are told and say something, and nothing fails, the command ends as it has to.
 abbrev pub Complete : Status → CommandLine → ShelfState → ShelfState → SinkState → SinkState → Type 0
 Complete status words shelf shelf' out out' =
-    (r c q : List ℕ) (rules : RuleFile) (query : QueryTree) → AllTold words shelf r c q rules query
+    (command : Command) (given : List Given) (saying : Saying command) → AllTold words shelf command given saying
     → (Rose shelf.faults shelf'.faults → ⊥) → (Rose out.faults out'.faults → ⊥)
-    → (status ≡ Memory) ⊎ Ends rules query status
+    → (status ≡ Memory) ⊎ Ends command saying status
 
 -- a told text that is stopped, after told texts that are accepted
 pub record StopTold (words : CommandLine) (shelf : ShelfState) (place : ℕ) (this : Request) (earlier : List Given) (bytes line : List ℕ) : Type 0 where
@@ -126,8 +132,8 @@ calls_of words (Some command) = length (requests_of command words)
 -- what a run that is done put out is the command's answer of what some texts say
 abbrev pub DoneSays : CommandLine → SinkState → SinkState → Type 0
 DoneSays words out out' = OfCommand words (λ command.
-    (r : List ℕ) × (c : List ℕ) × (q : List ℕ) × (text : List ℕ) × IsAnswer command r c q Planned text × Adds out.taken text out'.taken)
+    (given : List Given) × (text : List ℕ) × IsAnswer command given endings.Done text × Adds out.taken text out'.taken)
 
--- there are files of which completeness speaks
+-- there are files of which the completeness of `plan` speaks
 abbrev pub SomeTold : Type 0
-SomeTold = (words : CommandLine) × (shelf : ShelfState) × (r : List ℕ) × (c : List ℕ) × (q : List ℕ) × (rules : RuleFile) × (query : QueryTree) × AllTold words shelf r c q rules query
+SomeTold = (words : CommandLine) × (shelf : ShelfState) × (given : List Given) × (saying : Saying commands.Plan) × AllTold words shelf commands.Plan given saying

@@ -4,7 +4,7 @@ use Rattle.std.specs.List.{list_any}
 use Rattle.std.specs.Str.{bytes_eq}
 use Rattle.std.specs.declared.alloc.Global.{Global}
 use Rattle.stars_core.specs.declared.command.Command.{Command}
-use Rattle.stars_core.specs.declared.command.Command.TheVariants.{Plan, Frontier}
+use Rattle.stars_core.specs.declared.command.Command.TheVariants.{Check, Plan, Frontier}
 use Rattle.stars_core.specs.declared.refusal.TextKind.{TextKind}
 use Rattle.stars_core.specs.declared.refusal.TextKind.TheVariants.{Rules, Catalogue, Query}
 
@@ -21,12 +21,27 @@ begins_dash (b ∷ bytes) = b == 45
 
 -- the command of this name
 abbrev pub named : List ℕ → Option Command
-named word = if bytes_eq word (codes "plan") then Some Plan else if bytes_eq word (codes "frontier") then Some Frontier else None
+named word =
+    if bytes_eq word (codes "check") then Some Check
+    else if bytes_eq word (codes "plan") then Some Plan
+    else if bytes_eq word (codes "frontier") then Some Frontier
+    else None
 
--- plan RULES CATALOGUE QUERY, and frontier of the same
+-- how many files a command asks for
+abbrev pub files_of : Command → ℕ
+files_of Check = 1
+files_of Plan = 3
+files_of Frontier = 3
+
+-- the command, where it asks for so many files
+abbrev pub asking : Option Command → ℕ → Option Command
+asking None names = None
+asking (Some command) names = if names == files_of command then Some command else None
+
+-- a command's name, and a name for each file
 abbrev pub listed : CommandLine → Option Command
 listed [] = None
-listed (word ∷ names) = if length names == 3 then named word else None
+listed (word ∷ names) = asking (named word) (length names)
 
 -- no word begins with a dash, and the words are a command and its names
 abbrev pub command_of : CommandLine → Option Command
@@ -44,4 +59,6 @@ three_requests rules catalogue query = (Rules, rules) ∷ (Catalogue, catalogue)
 
 -- the files that a command asks for, in order
 abbrev pub requests_of : Command → CommandLine → List Request
-requests_of command words = three_requests (word_at words 1) (word_at words 2) (word_at words 3)
+requests_of Check words = (Rules, word_at words 1) ∷ []
+requests_of Plan words = three_requests (word_at words 1) (word_at words 2) (word_at words 3)
+requests_of Frontier words = three_requests (word_at words 1) (word_at words 2) (word_at words 3)

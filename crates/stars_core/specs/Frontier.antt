@@ -10,8 +10,8 @@ use Rattle.star_model.specs.declared.rules.RuleFile.{RuleFile}
 use Rattle.star_model.specs.declared.query.Query.{Query as QueryTree}
 use Rattle.star_model.specs.declared.plans.Props.{Props}
 use Rattle.plan_choice.specs.FrontierLists.{IsFrontierList}
-use Rattle.stars_core.specs.declared.status.Found.{Found}
-use Rattle.stars_core.specs.declared.status.Found.TheVariants.{Planned, Unplanned}
+use Rattle.stars_core.specs.declared.status.Ending.{Ending}
+use Rattle.stars_core.specs.declared.status.Ending.TheVariants as endings
 use Rattle.stars_core.specs.Plan.{HasNoPlan, no_plan}
 
 -- what is not there has the empty name
@@ -57,6 +57,6 @@ abbrev pub frontier_line : QueryTree → Props → List ℕ
 frontier_line query v = costs_text v ++ place_text query v ++ lists_text query v ++ 10 ∷ []
 
 -- how the search for the query's goal ends, and the text of each end
-abbrev pub FrontierText : RuleFile → QueryTree → Found → List ℕ → Type 0
-FrontierText rules query Planned text = (list : List Props) × IsFrontierList query rules list × (list ≡ [] → ⊥) × (text ≡ flat_map (frontier_line query) list)
-FrontierText rules query Unplanned text = HasNoPlan rules query × (text ≡ no_plan)
+abbrev pub FrontierText : RuleFile → QueryTree → Ending → List ℕ → Type 0
+FrontierText rules query endings.Done text = (list : List Props) × IsFrontierList query rules list × (list ≡ [] → ⊥) × (text ≡ flat_map (frontier_line query) list)
+FrontierText rules query endings.NoPlan text = HasNoPlan rules query × (text ≡ no_plan)

@@ -62,15 +62,16 @@ abbrev pub RulesChecked : RuleFile → Result RuleFile Refusal → Type 0
 RulesChecked rules (Ok checked) = (checked ≡ rules) × IsAccepted rules
 RulesChecked rules (Err refusal) = Refuses Rules (λ line. (fault : RuleFault) × IsRefusedBy rules fault × (rules_line fault ≡ Some line)) refusal
 
--- what the judgement of each text answers
+-- The judgement of a text of this kind: it says something, or it is stopped with a line as P says.
+abbrev pub JudgedAs : {A : Type 0} → TextKind → (List ℕ → A → Type 0) → (List ℕ → List ℕ → Type 0) → List ℕ → Result A Refusal → Type 0
+JudgedAs kind Says P bytes (Ok this) = Says bytes this
+JudgedAs kind Says P bytes (Err refusal) = Refuses kind (P bytes) refusal
+
 abbrev pub JudgedRules : List ℕ → Result RuleFile Refusal → Type 0
-JudgedRules r (Ok rules) = RulesPass r rules
-JudgedRules r (Err refusal) = Refuses Rules (StopsAlways Rules r) refusal
+JudgedRules r result = JudgedAs Rules RulesPass (StopsAlways Rules) r result
 
 abbrev pub JudgedCatalogue : List ℕ → Result CatalogueTree Refusal → Type 0
-JudgedCatalogue c (Ok catalogue) = CataloguePasses c catalogue
-JudgedCatalogue c (Err refusal) = Refuses Catalogue (StopsAlways Catalogue c) refusal
+JudgedCatalogue c result = JudgedAs Catalogue CataloguePasses (StopsAlways Catalogue) c result
 
 abbrev pub JudgedQuery : CatalogueTree → List ℕ → Result QueryTree Refusal → Type 0
-JudgedQuery catalogue q (Ok query) = QueryPasses catalogue q query
-JudgedQuery catalogue q (Err refusal) = Refuses Query (StopsOver catalogue q) refusal
+JudgedQuery catalogue q result = JudgedAs Query (QueryPasses catalogue) (StopsOver catalogue) q result

@@ -7,8 +7,8 @@ use Rattle.star_model.specs.declared.query.Query.{Query as QueryTree}
 use Rattle.star_model.specs.declared.derivations.Deriv.{Deriv}
 use Rattle.star_model.specs.declared.plans.Props.{Props}
 use Rattle.spelling.specs.Derivations.{canonical}
-use Rattle.stars_core.specs.declared.status.Found.{Found}
-use Rattle.stars_core.specs.declared.status.Found.TheVariants.{Planned, Unplanned}
+use Rattle.stars_core.specs.declared.status.Ending.{Ending}
+use Rattle.stars_core.specs.declared.status.Ending.TheVariants as endings
 
 abbrev pub numbers_line_of : ℕ → ℕ → ℕ → List ℕ
 numbers_line_of cost rescan card = codes "# cost " ++ decimal cost ++ codes " rescan " ++ decimal rescan ++ codes " card " ++ decimal card ++ 10 ∷ []
@@ -24,6 +24,6 @@ abbrev pub HasNoPlan : RuleFile → QueryTree → Type 0
 HasNoPlan rules query = (d : Deriv) (v : Props) → IsRoot query rules d v → ⊥
 
 -- how planning ends, and the text of each end
-abbrev pub PlanText : RuleFile → QueryTree → Found → List ℕ → Type 0
-PlanText rules query Planned text = (d : Deriv) × (v : Props) × IsLeast query rules d v × (text ≡ numbers_line v ++ canonical d)
-PlanText rules query Unplanned text = HasNoPlan rules query × (text ≡ no_plan)
+abbrev pub PlanText : RuleFile → QueryTree → Ending → List ℕ → Type 0
+PlanText rules query endings.Done text = (d : Deriv) × (v : Props) × IsLeast query rules d v × (text ≡ numbers_line v ++ canonical d)
+PlanText rules query endings.NoPlan text = HasNoPlan rules query × (text ≡ no_plan)

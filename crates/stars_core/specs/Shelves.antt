@@ -1,25 +1,28 @@
--- What a command found on its shelf.
-use Rattle.std.specs.Prelude.{◌≡◌, ◌≤◌, ◌+◌, ◌<◌, ℕ, false, List, [], ◌∷◌, take, slice_get, length, Option, None, Some, Result, Ok, Err, Vec, string_bytes}
+-- What a command finds on its shelf.
+use Rattle.std.specs.Prelude.{◌≡◌, ◌≤◌, ◌+◌, ◌++◌, ◌<◌, ℕ, false, List, [], ◌∷◌, take, slice_get, length, Option, None, Some, Result, Ok, Err, Vec, string_bytes}
 use Rattle.std.specs.declared.alloc.Global.{Global}
 use Rattle.sb_outside.specs.Counts.{RoseBy}
 use Rattle.sb_outside.specs.Shelf.{Files, ShelfState, GoesBy, FailsAt, NoFault, TellsBytes, TellsMore}
 use Rattle.stars_core.specs.declared.refusal.TextKind.{TextKind}
 use Rattle.stars_core.specs.declared.refusal.Refusal.{Refusal}
 use Rattle.stars_core.specs.declared.refusal.Refusal.TheVariants.{Usage, Unread, Refused, Memory}
-use Rattle.stars_core.specs.declared.status.Found.{Found}
+use Rattle.stars_core.specs.declared.status.Ending.{Ending}
 use Rattle.stars_core.specs.declared.answer.Answer.{Answer}
+use Rattle.stars_core.specs.declared.case.Case.{Case}
 use Rattle.stars_core.specs.declared.command.Command.{Command}
-use Rattle.stars_core.specs.CommandLine.{Request, CommandLine, requests_of}
+use Rattle.stars_core.specs.CommandLine.{Request, CommandLine, requests_of, three_requests}
 use Rattle.stars_core.specs.Lines.{cannot_read, too_long_line}
 use Rattle.stars_core.specs.Given.{Given}
 use Rattle.stars_core.specs.Faults.{Stops, PassAll}
-use Rattle.stars_core.specs.ThreeTexts.{IsAnswer, three}
+use Rattle.stars_core.specs.Saying.{SaysCase, IsAnswer, three}
 
 -- These are texts of what is asked for, and those that the shelf holds, where it tells.
 abbrev pub HeldAs : Option Files → List Request → List Given → Type 0
 HeldAs told [] [] = Unit {0}
 HeldAs told (request ∷ later) (this ∷ given) = (this.0 ≡ request.0) × TellsBytes told request.1 this.1 × HeldAs told later given
 HeldAs told _ _ = ⊥
+
+-- ---- one file
 
 -- a file wasn't fetched
 abbrev pub NotFetched : ShelfState → ShelfState → Request → Refusal → Type 0
@@ -34,6 +37,28 @@ NotFetched before now request Memory = Unit {0}
 abbrev pub Fetched : ShelfState → ShelfState → Request → Result (Vec ℕ Global) Refusal → Type 0
 Fetched before now request (Ok text) = NoFault before now × TellsBytes before.held request.1 text.items × (length text.items ≤ 1048576)
 Fetched before now request (Err refusal) = NotFetched before now request refusal
+
+-- the file's text is stopped as P says
+pub record StopTaken (P : List ℕ → List ℕ → Type 0) (before now : ShelfState) (request : Request) (line : List ℕ) : Type 0 where
+  pub bytes : List ℕ
+  pub told : TellsBytes before.held request.1 bytes
+  pub stops : P bytes line
+  pub quiet : NoFault before now
+  pub too_long : 1048576 < length bytes → RoseBy 1048577 before.taken now.taken
+
+-- a file wasn't taken: it couldn't be read, or its text is stopped as P says
+abbrev pub NotTaken : (List ℕ → List ℕ → Type 0) → ShelfState → ShelfState → Request → Refusal → Type 0
+NotTaken P before now request Usage = ⊥
+NotTaken P before now request (Unread line) = FailsAt before now (false, request.1) × (string_bytes line ≡ cannot_read request.1)
+NotTaken P before now request (Refused kind line) = (kind ≡ request.0) × StopTaken P before now request (string_bytes line)
+NotTaken P before now request Memory = Unit {0}
+
+-- a file was read and its text says this, or why not
+abbrev pub Taken : {A : Type 0} → (List ℕ → A → Type 0) → (List ℕ → List ℕ → Type 0) → ShelfState → ShelfState → Request → Result A Refusal → Type 0
+Taken Says P before now request (Ok this) = NoFault before now × (bytes : List ℕ) × TellsBytes before.held request.1 bytes × Says bytes this
+Taken Says P before now request (Err refusal) = NotTaken P before now request refusal
+
+-- ---- the files of a command
 
 -- the command came to the file at this place: it was asked for, and those before it are accepted
 pub record CameTo (before now : ShelfState) (requests : List Request) (place : ℕ) (this : Request) (earlier : List Given) : Type 0 where
@@ -67,22 +92,32 @@ RanInto before now requests (Unread line) = UnreadAt before now requests (string
 RanInto before now requests (Refused kind line) = RefusedAt before now requests kind (string_bytes line)
 RanInto before now requests Memory = Unit {0}
 
--- the texts that three requests stand for, all accepted
-pub record Texts (told : Option Files) (requests : List Request) (r c q : List ℕ) : Type 0 where
-  pub held : HeldAs told requests (three r c q)
-  pub accepted : PassAll [] (three r c q)
+-- the files so far were read and are accepted, and the shelf didn't fail
+pub record CameAlong (before now : ShelfState) (front : List Request) (earlier : List Given) : Type 0 where
+  pub by : GoesBy (length front) before now
+  pub quiet : NoFault before now
+  pub held : HeldAs before.held front earlier
+  pub accepted : PassAll [] earlier
 
--- three requests stand for texts that are accepted, and this is the command's answer of what they say
-abbrev pub IsAnswered : Command → Option Files → List Request → Found → List ℕ → Type 0
-IsAnswered command told requests found text = (r : List ℕ) × (c : List ℕ) × (q : List ℕ) × Texts told requests r c q × IsAnswer command r c q found text
+-- three files were read and say this, or why not, whatever is asked for behind them
+abbrev pub CaseTaken : ShelfState → ShelfState → List ℕ → List ℕ → List ℕ → Result Case Refusal → Type 0
+CaseTaken before now rules catalogue query (Ok case) =
+    (r : List ℕ) × (c : List ℕ) × (q : List ℕ) × CameAlong before now (three_requests rules catalogue query) (three r c q)
+    × SaysCase r c q case.rules case.query
+CaseTaken before now rules catalogue query (Err refusal) =
+    (later : List Request) → RanInto before now (three_requests rules catalogue query ++ later) refusal
+
+-- the requests stand for texts that are accepted, and this is the command's answer of what they say
+abbrev pub IsAnswered : Command → Option Files → List Request → Ending → List ℕ → Type 0
+IsAnswered command told requests ending text = (given : List Given) × HeldAs told requests given × PassAll [] given × IsAnswer command given ending text
 
 -- what a command puts out, piece by piece
-abbrev pub Puts : Command → Option Files → CommandLine → Found → List (List ℕ) → Type 0
-Puts command told words found pieces = (text : List ℕ) × IsAnswered command told (requests_of command words) found text × (pieces ≡ text ∷ [])
+abbrev pub Puts : Command → Option Files → CommandLine → Ending → List (List ℕ) → Type 0
+Puts command told words ending pieces = (text : List ℕ) × IsAnswered command told (requests_of command words) ending text × (pieces ≡ text ∷ [])
 
--- the command's answer was made of three files, or why not
+-- the command's answer was made of its files, or why not
 abbrev pub Ran : Command → ShelfState → ShelfState → List Request → Result Answer Refusal → Type 0
-Ran command before now requests (Ok answer) = NoFault before now × IsAnswered command before.held requests answer.found answer.text.items
+Ran command before now requests (Ok answer) = NoFault before now × IsAnswered command before.held requests answer.ending answer.text.items
 Ran command before now requests (Err refusal) = RanInto before now requests refusal
 
 -- what the words made of the shelf

@@ -1,9 +1,9 @@
 // What a command puts out.
-use crate::Found;
+use crate::Ending;
 
-/// How planning ended, and the text that tells it.
+/// With which status a command ends, and the text that it puts.
 #[derive(Drop)]
 pub struct Answer {
-    pub found: Found,
+    pub ending: Ending,
     pub text: Vec<u8>,
 }

@@ -1,15 +1,29 @@
 // The command that the words of a command line give.
 ghost use Rattle.std.specs.Prelude.{◌≡◌, ◌+◌, ◌<◌, length, IfSome, string_bytes};
 ghost use Rattle.std.specs.List.{list_any};
-ghost use Rattle.stars_core.specs.CommandLine.{begins_dash, named, listed, command_of, bytes_of, requests_of, word_at};
+ghost use Rattle.stars_core.specs.CommandLine.{begins_dash, named, files_of, asking, listed, command_of, bytes_of, requests_of, word_at};
 
 /// A command of the program.
 #[derive(Clone, Copy, Debug, PartialEq, Eq)]
 pub enum Command {
+    /// `check RULES` puts the rule file in canonical layout.
+    Check,
     /// `plan RULES CATALOGUE QUERY` puts the cheapest plan with its derivation and cost.
     Plan,
     /// `frontier RULES CATALOGUE QUERY` puts a line for each vector of the query's goal to which no other is better.
     Frontier,
+}
+
+impl Command {
+    /// How many files it asks for, of which each has its name among the words.
+    pub fn files(self) -> usize
+        ensures { result ≡ files_of self }
+    {
+        match self {
+            Command::Check => 1,
+            Command::Plan | Command::Frontier => 3,
+        }
+    }
 }
 
 fn begins_dash(word: &str) -> bool
@@ -21,7 +35,9 @@ fn begins_dash(word: &str) -> bool
 fn named(word: &str) -> Option<Command>
     ensures { result ≡ named word.now }
 {
-    if word == "plan" {
+    if word == "check" {
+        Some(Command::Check)
+    } else if word == "plan" {
         Some(Command::Plan)
     } else if word == "frontier" {
         Some(Command::Frontier)
@@ -30,19 +46,25 @@ fn named(word: &str) -> Option<Command>
     }
 }
 
+// The command of a name, where it asks for so many files.
+fn asking(command: Option<Command>, names: usize) -> Option<Command>
+    ensures value { result ≡ asking command names }
+    ensures names { IfSome result (λ command. names ≡ files_of command) }
+{
+    match command {
+        Some(command) if names == command.files() => Some(command),
+        _ => None,
+    }
+}
+
+#[tactic(auto, using(crate::proofs::Words::asks_for))]
 fn listed(words: &[String]) -> Option<Command>
     ensures value { result ≡ listed (bytes_of words.now) }
     ensures names { IfSome result (λ command. length words.now ≡ length (requests_of command (bytes_of words.now)) + 1) }
 {
     match words {
         [] => None,
-        [word, names @ ..] => {
-            if names.len() == 3 {
-                named(word.as_str())
-            } else {
-                None
-            }
-        }
+        [word, names @ ..] => asking(named(word.as_str()), names.len()),
     }
 }
 

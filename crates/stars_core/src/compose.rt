@@ -5,32 +5,47 @@ ghost use Rattle.sb_outside.specs.Shelf.{GoesBy};
 ghost use Rattle.stars_core.specs.Shelves.{Composed, Ran};
 
 use crate::command::{find_command, word_at};
-use crate::read::fetch;
-use crate::{
-    Answer, Command, Refusal, TextKind, answer_query, judge_catalogue, judge_query, judge_rules,
-};
+use crate::taking::{take_case, take_rules};
+use crate::{Answer, Command, Refusal, TextKind, frontier_query, plan_query, print_checked};
 use sb_outside::Shelf;
 use std::alloc::Global;
 
-// What the command puts out for three files.
-fn answer<S: Shelf>(
+fn check<S: Shelf>(alloc: Global, shelf: &mut S, rules: &str) -> Result<Answer, Refusal>
+    ensures goes { GoesBy 1 (S.state shelf.old) (S.state shelf.new) }
+    ensures ran { Ran Command.Check (S.state shelf.old) (S.state shelf.new) ((TextKind.Rules, rules.now) ∷ []) result }
+{
+    let rules = take_rules(alloc, shelf, rules)?;
+    let answer = print_checked(alloc, &rules)?;
+    Ok(answer)
+}
+
+fn plan<S: Shelf>(
     alloc: Global,
-    command: Command,
     shelf: &mut S,
     rules: &str,
     catalogue: &str,
     query: &str,
 ) -> Result<Answer, Refusal>
     ensures goes { GoesBy 3 (S.state shelf.old) (S.state shelf.new) }
-    ensures ran { Ran command (S.state shelf.old) (S.state shelf.new) (three_requests rules.now catalogue.now query.now) result }
+    ensures ran { Ran Command.Plan (S.state shelf.old) (S.state shelf.new) (three_requests rules.now catalogue.now query.now) result }
 {
-    let rule_text = fetch(alloc, shelf, TextKind::Rules, rules)?;
-    let repertoire = judge_rules(alloc, rule_text.as_slice())?;
-    let catalogue_text = fetch(alloc, shelf, TextKind::Catalogue, catalogue)?;
-    let tree = judge_catalogue(alloc, catalogue_text.as_slice())?;
-    let query_text = fetch(alloc, shelf, TextKind::Query, query)?;
-    let selection = judge_query(alloc, &tree, query_text.as_slice())?;
-    let answer = answer_query(alloc, command, &repertoire, &selection)?;
+    let case = take_case(alloc, shelf, rules, catalogue, query)?;
+    let answer = plan_query(alloc, &case.rules, &case.query)?;
+    Ok(answer)
+}
+
+fn frontier<S: Shelf>(
+    alloc: Global,
+    shelf: &mut S,
+    rules: &str,
+    catalogue: &str,
+    query: &str,
+) -> Result<Answer, Refusal>
+    ensures goes { GoesBy 3 (S.state shelf.old) (S.state shelf.new) }
+    ensures ran { Ran Command.Frontier (S.state shelf.old) (S.state shelf.new) (three_requests rules.now catalogue.now query.now) result }
+{
+    let case = take_case(alloc, shelf, rules, catalogue, query)?;
+    let answer = frontier_query(alloc, &case.rules, &case.query)?;
     Ok(answer)
 }
 
@@ -38,15 +53,13 @@ fn answer<S: Shelf>(
 pub fn compose<S: Shelf>(alloc: Global, words: &[String], shelf: &mut S) -> Result<Answer, Refusal>
     ensures { Composed (S.state shelf.old) (S.state shelf.new) (bytes_of words.now) (command_of (bytes_of words.now)) result }
 {
-    match find_command(words) {
-        None => Err(Refusal::Usage),
-        Some(command) => answer(
-            alloc,
-            command,
-            shelf,
-            word_at(words, 1),
-            word_at(words, 2),
-            word_at(words, 3),
-        ),
+    let Some(command) = find_command(words) else {
+        return Err(Refusal::Usage);
+    };
+    let first = word_at(words, 1);
+    match command {
+        Command::Check => check(alloc, shelf, first),
+        Command::Plan => plan(alloc, shelf, first, word_at(words, 2), word_at(words, 3)),
+        Command::Frontier => frontier(alloc, shelf, first, word_at(words, 2), word_at(words, 3)),
     }
 }

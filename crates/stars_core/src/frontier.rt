@@ -5,7 +5,7 @@ ghost use Rattle.star_model.specs.WellFormed.{WellFormedQuery};
 ghost use Rattle.stars_core.specs.Frontier.{FrontierText, site_name, quantifier_name, column_name, column_text, further_columns, columns_text, yes_or_no, costs_text, place_text, lists_text, frontier_line};
 
 use crate::plan::unplanned;
-use crate::{Answer, Found};
+use crate::{Answer, Ending};
 use query_graph::table_of;
 use star_check::CheckedRules;
 use star_expand::frontier;
@@ -146,14 +146,14 @@ pub fn frontier_query(
     query: &Query,
 ) -> Result<Answer, AllocError>
     requires { WellFormedQuery query.now }
-    ensures { IfOk result (λ answer. FrontierText rules.now query.now answer.found answer.text.items) }
+    ensures { IfOk result (λ answer. FrontierText rules.now query.now answer.ending answer.text.items) }
 {
     let vectors = frontier(alloc, rules, query)?;
     if vectors.len() == 0 {
         return unplanned(alloc);
     }
     Ok(Answer {
-        found: Found::Planned,
+        ending: Ending::Done,
         text: lines(alloc, query, vectors.as_slice())?,
     })
 }

@@ -2,7 +2,7 @@
 #![tactic(auto)]
 
 mod answer;
-mod answering;
+mod case;
 mod command;
 mod compose;
 mod frontier;
@@ -13,18 +13,21 @@ mod plan;
 mod read;
 mod refusal;
 mod rule_lines;
+mod rules_text;
 mod status;
+mod taking;
 mod texts;
 mod top;
 
 pub use answer::Answer;
-pub use answering::answer_query;
+pub use case::Case;
 pub use command::{Command, find_command};
 pub use frontier::frontier_query;
 pub use judging::{judge_catalogue, judge_query, judge_rules};
 pub use laws::{done_says, one_reading, one_verdict, some_plan_is_told};
 pub use plan::plan_query;
 pub use refusal::{Refusal, TextKind};
-pub use status::{Found, Status};
-pub use texts::answer_texts;
+pub use rules_text::print_checked;
+pub use status::{Ending, Status};
+pub use texts::{check_text, frontier_texts, plan_texts};
 pub use top::stars;

@@ -4,9 +4,9 @@ ghost use Rattle.star_model.specs.WellFormed.{WellFormedQuery};
 ghost use Rattle.lolepop.specs.Derived.{vector_of};
 ghost use Rattle.spelling.specs.Derivations.{canonical};
 ghost use Rattle.stars_core.specs.Plan.{PlanText, numbers_line_of, numbers_line, no_plan};
-ghost use Rattle.stars_core.specs.declared.status.Found.TheVariants.{Planned, Unplanned};
+ghost use Rattle.stars_core.specs.declared.status.Ending.TheVariants.{Planned, Unplanned};
 
-use crate::{Answer, Found};
+use crate::{Answer, Ending};
 use derivation_print::print_derivation;
 use lolepop::Best;
 use star_check::CheckedRules;
@@ -44,11 +44,11 @@ fn plan_text(alloc: Global, plan: &Best) -> Result<Vec<u8>, AllocError>
 
 /// The answer where the rules derive no plan.
 pub fn unplanned(alloc: Global) -> Result<Answer, AllocError>
-    ensures { IfOk result (λ answer. (answer.found ≡ Unplanned) × (answer.text.items ≡ no_plan)) }
+    ensures { IfOk result (λ answer. (answer.ending ≡ Unplanned) × (answer.text.items ≡ no_plan)) }
 {
     let line = format!(in alloc; "no plan\n")?;
     Ok(Answer {
-        found: Found::Unplanned,
+        ending: Ending::NoPlan,
         text: line.into_bytes(),
     })
 }
@@ -56,11 +56,11 @@ pub fn unplanned(alloc: Global) -> Result<Answer, AllocError>
 /// How planning of a query by rules ends, and the text that tells it.
 pub fn plan_query(alloc: Global, rules: &CheckedRules, query: &Query) -> Result<Answer, AllocError>
     requires { WellFormedQuery query.now }
-    ensures { IfOk result (λ answer. PlanText rules.now query.now answer.found answer.text.items) }
+    ensures { IfOk result (λ answer. PlanText rules.now query.now answer.ending answer.text.items) }
 {
     match best(alloc, rules, query)? {
         Some(plan) => Ok(Answer {
-            found: Found::Planned,
+            ending: Ending::Done,
             text: plan_text(alloc, &plan)?,
         }),
         None => unplanned(alloc),

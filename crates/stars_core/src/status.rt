@@ -44,9 +44,9 @@ impl Status {
     }
 }
 
-/// How planning ended: with a least plan, or there is none.
+/// With which of two statuses a command ends that puts its text: with its output, or with `no plan`.
 #[derive(Clone, Copy, Debug, PartialEq, Eq)]
-pub enum Found {
-    Planned,
-    Unplanned,
+pub enum Ending {
+    Done,
+    NoPlan,
 }

@@ -1,25 +1,65 @@
-// The answer of three texts.
-ghost use Rattle.stars_core.specs.ThreeTexts.{AnswersOf};
+// The answers of texts that come from anywhere.
+//
+// These calls have no premise on where the texts come from, so they say of the bytes of real files what `stars` says of a
+// shelf that tells what it holds.
+ghost use Rattle.std.specs.Prelude.{[], ◌∷◌};
+ghost use Rattle.stars_core.specs.Saying.{three};
+ghost use Rattle.stars_core.specs.Judged.{AnswersOf, CaseOf};
 
-use crate::{Answer, Command, Refusal, answer_query, judge_catalogue, judge_query, judge_rules};
+use crate::{
+    Answer, Case, Command, Refusal, TextKind, frontier_query, judge_catalogue, judge_query,
+    judge_rules, plan_query, print_checked,
+};
 use std::alloc::Global;
 
-/// What a command answers of three texts, or their first fault: for `plan` a plan of the least cost, or that there is none.
-///
-/// It has no premise on where the texts come from, so it says of the bytes of real files what `stars` says of a shelf
-/// that tells what it holds.
-pub fn answer_texts(
+// What three texts say.
+fn judge_case(
     alloc: Global,
-    command: Command,
+    rules: &[u8],
+    catalogue: &[u8],
+    query: &[u8],
+) -> Result<Case, Refusal>
+    ensures { CaseOf rules.now catalogue.now query.now result }
+{
+    let rules = judge_rules(alloc, rules)?;
+    let catalogue = judge_catalogue(alloc, catalogue)?;
+    let query = judge_query(alloc, &catalogue, query)?;
+    Ok(Case { rules, query })
+}
+
+/// The canonical text of a rule file, or its first fault.
+pub fn check_text(alloc: Global, rules: &[u8]) -> Result<Answer, Refusal>
+    ensures { AnswersOf Command.Check ((TextKind.Rules, rules.now) ∷ []) result }
+{
+    let rules = judge_rules(alloc, rules)?;
+    let answer = print_checked(alloc, &rules)?;
+    Ok(answer)
+}
+
+/// A plan of the least cost, or that there is none, or the first fault of three texts.
+pub fn plan_texts(
+    alloc: Global,
     rules: &[u8],
     catalogue: &[u8],
     query: &[u8],
 ) -> Result<Answer, Refusal>
-    ensures { AnswersOf command rules.now catalogue.now query.now result }
+    ensures { AnswersOf Command.Plan (three rules.now catalogue.now query.now) result }
 {
-    let rules = judge_rules(alloc, rules)?;
-    let tree = judge_catalogue(alloc, catalogue)?;
-    let query = judge_query(alloc, &tree, query)?;
-    let answer = answer_query(alloc, command, &rules, &query)?;
+    let case = judge_case(alloc, rules, catalogue, query)?;
+    let answer = plan_query(alloc, &case.rules, &case.query)?;
+    Ok(answer)
+}
+
+/// The frontier of the query's goal, or that there is no plan, or the first fault of three texts.
+pub fn frontier_texts(
+    alloc: Global,
+    rules: &[u8],
+    catalogue: &[u8],
+    query: &[u8],
+) -> Result<Answer, Refusal>
+    ensures { AnswersOf Command.Frontier (three rules.now catalogue.now query.now) result }
+{
+    let case = judge_case(alloc, rules, catalogue, query)?;
+    let answer = frontier_query(alloc, &case.rules, &case.query)?;
     Ok(answer)
 }

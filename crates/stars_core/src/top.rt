@@ -7,7 +7,7 @@ ghost use Rattle.stars_core.specs.Lines.{cannot_write};
 ghost use Rattle.stars_core.specs.Answers.{Answered, Complete, RefusedExactly, LinePut, calls_of};
 
 use crate::compose::compose;
-use crate::{Answer, Found, Status};
+use crate::{Answer, Ending, Status};
 use sb_outside::{Shelf, Sink, SinkFault};
 use std::alloc::Global;
 
@@ -51,9 +51,9 @@ pub fn stars<S: Shelf, O: Sink, E: Sink>(
 {
     match compose(alloc, words, shelf) {
         Ok(answer) => match emit(out, &answer) {
-            Ok(()) => match answer.found {
-                Found::Planned => Status::Done,
-                Found::Unplanned => Status::NoPlan,
+            Ok(()) => match answer.ending {
+                Ending::Done => Status::Done,
+                Ending::NoPlan => Status::NoPlan,
             },
             Err(_) => {
                 tell(err, "cannot write\n");

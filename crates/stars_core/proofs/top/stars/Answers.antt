@@ -1,24 +1,24 @@
 use Rattle.std.proofs.Common.{refl}
 use Rattle.stars_core.specs.declared.status.Status.TheVariants.{Done, NoPlan, WriteFault}
-use Rattle.stars_core.specs.declared.status.Found.TheVariants.{Planned, Unplanned}
+use Rattle.stars_core.specs.declared.status.Ending.TheVariants as endings
 use Rattle.stars_core.specs.CommandLine.{bytes_of, command_of}
 use Rattle.stars_core.specs.Lines.{status_of}
 use Rattle.stars_core.proofs.Derived.{complete, refused_exactly}
 use Rattle.stars_core.proofs.Causes.{answered_at, output_at, part_at}
 use Rattle.stars_core.proofs.top.stars.Goals as goal
 
-pub returns-in-Planned-clause-answer : goal.returns-in-Planned-clause-answer
-returns-in-Planned-clause-answer g c =
-    output_at Planned (bytes_of c.args.words.now) (command_of (bytes_of c.args.words.now)) _ _ _ _ _ c.in-Ok.answer refl c.in-Ok.ensures c.in-Planned.is
+pub returns-in-Done-clause-answer : goal.returns-in-Done-clause-answer
+returns-in-Done-clause-answer g c =
+    output_at endings.Done (bytes_of c.args.words.now) (command_of (bytes_of c.args.words.now)) _ _ _ _ _ c.in-Ok.answer refl c.in-Ok.ensures c.in-Done.is
     c.in-Ok-emit.ensures.puts c.in-Ok-emit.ensures.added c.in-Ok-emit.ensures.no_fault
 
-pub returns-in-Planned-clause-refused : goal.returns-in-Planned-clause-refused
-returns-in-Planned-clause-refused g c =
-    refused_exactly Done (bytes_of c.args.words.now) _ _ (g.O.Sink.state c.args.out.now) (g.O.Sink.state c.emit.new.out) _ _ (returns-in-Planned-clause-answer g c)
+pub returns-in-Done-clause-refused : goal.returns-in-Done-clause-refused
+returns-in-Done-clause-refused g c =
+    refused_exactly Done (bytes_of c.args.words.now) _ _ (g.O.Sink.state c.args.out.now) (g.O.Sink.state c.emit.new.out) _ _ (returns-in-Done-clause-answer g c)
 
 pub returns-in-Ok-emit-clause-answer : goal.returns-in-Ok-emit-clause-answer
 returns-in-Ok-emit-clause-answer g c =
-    output_at Unplanned (bytes_of c.args.words.now) (command_of (bytes_of c.args.words.now)) _ _ _ _ _ c.in-Ok.answer refl c.in-Ok.ensures c.in-Unplanned.is
+    output_at endings.NoPlan (bytes_of c.args.words.now) (command_of (bytes_of c.args.words.now)) _ _ _ _ _ c.in-Ok.answer refl c.in-Ok.ensures c.in-NoPlan.is
     c.in-Ok-emit.ensures.puts c.in-Ok-emit.ensures.added c.in-Ok-emit.ensures.no_fault
 
 pub returns-in-Ok-emit-clause-refused : goal.returns-in-Ok-emit-clause-refused
@@ -49,9 +49,9 @@ returns-clause-refused g c =
     rw c.status.ensures
     (refused_exactly (status_of c.in-Err.refusal) (bytes_of c.args.words.now) _ _ (g.O.Sink.state c.args.out.now) (g.O.Sink.state c.args.out.now) _ _ answered)
 
-pub returns-in-Planned-clause-complete : goal.returns-in-Planned-clause-complete
-returns-in-Planned-clause-complete g c =
-    complete Done (bytes_of c.args.words.now) _ _ (g.O.Sink.state c.args.out.now) (g.O.Sink.state c.emit.new.out) (g.E.Sink.state c.args.err.now) (g.E.Sink.state c.args.err.now) (returns-in-Planned-clause-answer g c)
+pub returns-in-Done-clause-complete : goal.returns-in-Done-clause-complete
+returns-in-Done-clause-complete g c =
+    complete Done (bytes_of c.args.words.now) _ _ (g.O.Sink.state c.args.out.now) (g.O.Sink.state c.emit.new.out) (g.E.Sink.state c.args.err.now) (g.E.Sink.state c.args.err.now) (returns-in-Done-clause-answer g c)
 
 pub returns-in-Ok-emit-clause-complete : goal.returns-in-Ok-emit-clause-complete
 returns-in-Ok-emit-clause-complete g c =

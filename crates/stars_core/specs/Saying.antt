@@ -1,0 +1,66 @@
+-- What texts that are accepted say to a command, and what it answers of that.
+use Rattle.std.specs.Prelude.{◌≡◌, ℕ, List, [], ◌∷◌, slice_get}
+use Rattle.std.specs.Option.{option_map_or}
+use Rattle.star_model.specs.Accepted.{IsAccepted}
+use Rattle.star_model.specs.WellFormed.{WellFormedQuery}
+use Rattle.star_model.specs.declared.rules.RuleFile.{RuleFile}
+use Rattle.star_model.specs.declared.query.Query.{Query as QueryTree}
+use Rattle.spelling.specs.Rules.{SpellsRules, canonical}
+use Rattle.spelling.specs.Catalogues.{SpellsCatalogue}
+use Rattle.spelling.specs.Queries.{SpellsQuery}
+use Rattle.stars_core.specs.declared.command.Command.{Command}
+use Rattle.stars_core.specs.declared.command.Command.TheVariants.{Check, Plan, Frontier}
+use Rattle.stars_core.specs.declared.refusal.TextKind.TheVariants.{Rules, Catalogue, Query}
+use Rattle.stars_core.specs.declared.status.Ending.{Ending}
+use Rattle.stars_core.specs.declared.status.Ending.TheVariants.{Done}
+use Rattle.stars_core.specs.Given.{Given}
+use Rattle.stars_core.specs.Plan.{PlanText}
+use Rattle.stars_core.specs.Frontier.{FrontierText}
+
+-- the bytes of the text at this place
+abbrev pub text_at : List Given → ℕ → List ℕ
+text_at given place = option_map_or (λ g. g.1) (slice_get given place) []
+
+-- three texts: rules, a catalogue and a query
+abbrev pub three : List ℕ → List ℕ → List ℕ → List Given
+three r c q = (Rules, r) ∷ (Catalogue, c) ∷ (Query, q) ∷ []
+
+-- the text says these rules, which are accepted
+pub record SaysRules (r : List ℕ) (rules : RuleFile) : Type 0 where
+  pub of_rules : SpellsRules r rules
+  pub accepted : IsAccepted rules
+
+-- the three texts say these rules and this query
+pub record SaysCase (r c q : List ℕ) (rules : RuleFile) (query : QueryTree) : Type 0 where
+  pub of_rules : SaysRules r rules
+  pub of_catalogue : SpellsCatalogue c query.catalogue
+  pub of_query : SpellsQuery query.catalogue q query
+  pub formed : WellFormedQuery query
+
+-- what is said to each command
+abbrev pub Saying : Command → Type 0
+Saying Check = RuleFile
+Saying Plan = RuleFile × QueryTree
+Saying Frontier = RuleFile × QueryTree
+
+-- the texts say this to the command
+abbrev pub Says : (command : Command) → List Given → Saying command → Type 0
+Says Check given rules = SaysRules (text_at given 0) rules
+Says Plan given saying = SaysCase (text_at given 0) (text_at given 1) (text_at given 2) saying.0 saying.1
+Says Frontier given saying = SaysCase (text_at given 0) (text_at given 1) (text_at given 2) saying.0 saying.1
+
+-- the text of rules that are accepted
+abbrev pub RulesText : RuleFile → Ending → List ℕ → Type 0
+RulesText rules ending text = (ending ≡ Done) × (text ≡ canonical rules)
+
+-- how the command ends, and the text of each end
+abbrev pub AnswerText : (command : Command) → Saying command → Ending → List ℕ → Type 0
+AnswerText Check rules ending text = RulesText rules ending text
+AnswerText Plan saying ending text = PlanText saying.0 saying.1 ending text
+AnswerText Frontier saying ending text = FrontierText saying.0 saying.1 ending text
+
+-- the texts say something, and this is the command's answer
+pub record IsAnswer (command : Command) (given : List Given) (ending : Ending) (text : List ℕ) : Type 0 where
+  pub saying : Saying command
+  pub says : Says command given saying
+  pub answer : AnswerText command saying ending text
