@@ -16,13 +16,13 @@ use Rattle.stars_core.specs.declared.refusal.TextKind.TheVariants as kinds
 use Rattle.stars_core.specs.declared.status.Ending.{Ending}
 use Rattle.stars_core.specs.declared.status.Ending.TheVariants as endings
 use Rattle.stars_core.specs.declared.status.Status.{Status}
-use Rattle.stars_core.specs.declared.status.Status.TheVariants.{Done, NoPlan, Usage, RulesRefused, CatalogueRefused, QueryRefused, ReadFault, WriteFault, Memory}
+use Rattle.stars_core.specs.declared.status.Status.TheVariants.{Done, NoPlan, Usage, RulesRefused, CatalogueRefused, QueryRefused, ReadFault, WriteFault, Memory, NotDerived, DerivationRefused}
 use Rattle.stars_core.specs.CommandLine.{CommandLine, Request, command_of, requests_of}
 use Rattle.stars_core.specs.Lines.{usage_line, cannot_write, out_of_memory, refused_status}
 use Rattle.stars_core.specs.Given.{Given}
 use Rattle.stars_core.specs.Faults.{Stops, PassAll}
 use Rattle.stars_core.specs.Saying.{Saying, Says, IsAnswer}
-use Rattle.stars_core.specs.Shelves.{HeldAs, RefusedAt, UnreadAt, Puts}
+use Rattle.stars_core.specs.Shelves.{HeldAs, RefusedAt, UnreadAt, DeniedOf, Puts}
 
 -- the words are a listed form, and P holds of the command
 abbrev pub OfCommand : CommandLine → (Command → Type 0) → Type 0
@@ -41,6 +41,8 @@ Caused Usage words before now line = (command_of words ≡ None) × (now ≡ bef
 Caused RulesRefused words before now line = RefusedBy kinds.Rules words before now line
 Caused CatalogueRefused words before now line = RefusedBy kinds.Catalogue words before now line
 Caused QueryRefused words before now line = RefusedBy kinds.Query words before now line
+Caused DerivationRefused words before now line = RefusedBy kinds.Derivation words before now line
+Caused NotDerived words before now line = OfCommand words (λ command. DeniedOf command before now (requests_of command words) line)
 Caused ReadFault words before now line = Unreadable words before now line
 Caused Memory words before now line = IsSome (command_of words) × (line ≡ out_of_memory)
 Caused _ words before now line = ⊥
@@ -88,6 +90,9 @@ abbrev pub Ends : (command : Command) → Saying command → Status → Type 0
 Ends commands.Check rules status = status ≡ Done
 Ends commands.Plan saying status = PlanEnds saying.0 saying.1 status
 Ends commands.Frontier saying status = PlanEnds saying.0 saying.1 status
+Ends commands.Verify saying status =
+    ((status ≡ Done) × (v : Props) × IsRoot saying.1 saying.0 saying.2 v)
+    ⊎ ((status ≡ NotDerived) × ((v : Props) → IsRoot saying.1 saying.0 saying.2 v → ⊥))
 
 -- all files of a command that the shelf tells, and what they say
 pub record AllTold (words : CommandLine) (shelf : ShelfState) (command : Command) (given : List Given) (saying : Saying command) : Type 0 where

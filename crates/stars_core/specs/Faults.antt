@@ -12,9 +12,11 @@ use Rattle.catalogue.specs.declared.fault.CatFault.{CatFault}
 use Rattle.catalogue.specs.Faults as catalogues
 use Rattle.query_graph.specs.declared.fault.QueryFault.{QueryFault}
 use Rattle.query_graph.specs.Faults as queries
+use Rattle.derivation_reading.specs.declared.fault.DerivFault.{DerivFault}
+use Rattle.derivation_reading.specs.Faults as derivations
 use Rattle.stars_core.specs.declared.refusal.TextKind.{TextKind}
-use Rattle.stars_core.specs.declared.refusal.TextKind.TheVariants.{Rules, Catalogue, Query}
-use Rattle.stars_core.specs.Lines.{too_long_line, rules_line, catalogue_line, query_line}
+use Rattle.stars_core.specs.declared.refusal.TextKind.TheVariants.{Rules, Catalogue, Query, Derivation}
+use Rattle.stars_core.specs.Lines.{too_long_line, rules_line, catalogue_line, query_line, derivation_line}
 use Rattle.stars_core.specs.Given.{Given, Over}
 
 pub data Kind : Type 0 where
@@ -32,6 +34,7 @@ IsMisread earlier (Rules, r) line = (fault : RuleFault) × rule_files.IsFirstFau
 IsMisread earlier (Catalogue, c) line = (fault : CatFault) × catalogues.IsFirstFault c fault × (catalogue_line fault ≡ Some line)
 IsMisread earlier (Query, q) line =
     (catalogue : CatalogueTree) × Over earlier catalogue × (fault : QueryFault) × queries.IsFirstFault catalogue q fault × (query_line fault ≡ Some line)
+IsMisread earlier (Derivation, d) line = (fault : DerivFault) × derivations.IsFirstFault d fault × (derivation_line fault ≡ Some line)
 
 -- the rules that the text spells keep their limits and are not accepted, and the line tells why
 abbrev pub IsRejected : Given → List ℕ → Type 0
@@ -39,6 +42,7 @@ IsRejected (Rules, r) line =
     (rules : RuleFile) × SpellsRules r rules × WellFormedRules rules × (fault : RuleFault) × IsRefusedBy rules fault × (rules_line fault ≡ Some line)
 IsRejected (Catalogue, c) line = ⊥
 IsRejected (Query, q) line = ⊥
+IsRejected (Derivation, d) line = ⊥
 
 -- the text has a fault of this kind, and the line tells it
 abbrev pub HasFault : List Given → Given → Kind → List ℕ → Type 0

@@ -4,7 +4,7 @@ use Rattle.star_model.specs.WellFormed.{WellFormedCatalogue}
 use Rattle.star_model.specs.declared.catalogue.Catalogue.{Catalogue as CatalogueTree}
 use Rattle.spelling.specs.Catalogues.{SpellsCatalogue}
 use Rattle.stars_core.specs.declared.refusal.TextKind.{TextKind}
-use Rattle.stars_core.specs.declared.refusal.TextKind.TheVariants.{Rules, Catalogue, Query}
+use Rattle.stars_core.specs.declared.refusal.TextKind.TheVariants.{Rules, Catalogue, Query, Derivation}
 
 -- a text: what it is to be, and its bytes
 abbrev pub Given : Type 0
@@ -16,6 +16,7 @@ catalogue_in [] = []
 catalogue_in ((Catalogue, c) ∷ later) = c
 catalogue_in ((Rules, r) ∷ later) = catalogue_in later
 catalogue_in ((Query, q) ∷ later) = catalogue_in later
+catalogue_in ((Derivation, d) ∷ later) = catalogue_in later
 
 -- the catalogue that the one among the texts says
 pub record Over (earlier : List Given) (catalogue : CatalogueTree) : Type 0 where

@@ -8,10 +8,12 @@ use Rattle.star_model.specs.declared.rules.RuleFile.{RuleFile}
 use Rattle.star_syntax.specs.Faults as rule_files
 use Rattle.catalogue.specs.Faults as catalogues
 use Rattle.query_graph.specs.Faults as queries
+use Rattle.derivation_reading.specs.Faults as derivations
+use Rattle.star_model.specs.declared.derivations.Deriv.{Deriv}
 use Rattle.stars_core.specs.declared.refusal.TextKind.{TextKind}
-use Rattle.stars_core.specs.declared.refusal.TextKind.TheVariants.{Rules, Catalogue, Query}
+use Rattle.stars_core.specs.declared.refusal.TextKind.TheVariants.{Rules, Catalogue, Query, Derivation}
 use Rattle.stars_core.specs.declared.refusal.Refusal.{Refusal}
-use Rattle.stars_core.specs.declared.refusal.Refusal.TheVariants.{Usage, Unread, Refused, Memory}
+use Rattle.stars_core.specs.declared.refusal.Refusal.TheVariants.{Usage, Unread, Refused, NotDerived, Memory}
 use Rattle.stars_core.specs.Lines.{too_long_line, rules_line}
 use Rattle.stars_core.specs.Given.{Given, Over}
 use Rattle.stars_core.specs.Faults.{Stops}
@@ -22,6 +24,7 @@ Refuses kind P (Refused k line) = (k ≡ kind) × P (string_bytes line)
 Refuses kind P Memory = Unit {0}
 Refuses kind P Usage = ⊥
 Refuses kind P (Unread line) = ⊥
+Refuses kind P (NotDerived line) = ⊥
 
 -- whether the text is within the limit
 abbrev pub SizeJudged : {A : Type 0} → TextKind → List ℕ → Result A Refusal → Type 0
@@ -43,6 +46,11 @@ pub record CataloguePasses (c : List ℕ) (catalogue : CatalogueTree) : Type 0 w
 pub record QueryPasses (catalogue : CatalogueTree) (q : List ℕ) (query : QueryTree) : Type 0 where
   pub size : length q ≤ 1048576
   pub read : queries.ReadsQuery catalogue q (Ok query)
+
+-- the text says this derivation
+pub record DerivationPasses (d : List ℕ) (tree : Deriv) : Type 0 where
+  pub size : length d ≤ 1048576
+  pub read : derivations.ReadsDerivation d (Ok tree)
 
 -- the text is stopped with this line, whatever stands before it
 abbrev pub StopsAlways : TextKind → List ℕ → List ℕ → Type 0
@@ -75,3 +83,6 @@ JudgedCatalogue c result = JudgedAs Catalogue CataloguePasses (StopsAlways Catal
 
 abbrev pub JudgedQuery : CatalogueTree → List ℕ → Result QueryTree Refusal → Type 0
 JudgedQuery catalogue q result = JudgedAs Query (QueryPasses catalogue) (StopsOver catalogue) q result
+
+abbrev pub JudgedDerivation : List ℕ → Result Deriv Refusal → Type 0
+JudgedDerivation d result = JudgedAs Derivation DerivationPasses (StopsAlways Derivation) d result

@@ -5,6 +5,7 @@ pub mod Faults
 pub mod Judging
 pub mod Plan
 pub mod Frontier
+pub mod Verified
 pub mod Saying
 pub mod Judged
 pub mod Shelves

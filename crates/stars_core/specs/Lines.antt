@@ -14,8 +14,10 @@ use Rattle.catalogue.specs.declared.fault.CatFault.{CatFault}
 use Rattle.catalogue.specs.declared.fault.CatFault.TheVariants as catalogues
 use Rattle.query_graph.specs.declared.fault.QueryFault.{QueryFault}
 use Rattle.query_graph.specs.declared.fault.QueryFault.TheVariants as queries
+use Rattle.derivation_reading.specs.declared.fault.DerivFault.{DerivFault}
+use Rattle.derivation_reading.specs.declared.fault.DerivFault.TheVariants as derivations
 use Rattle.stars_core.specs.declared.refusal.TextKind.{TextKind}
-use Rattle.stars_core.specs.declared.refusal.TextKind.TheVariants.{Rules, Catalogue, Query}
+use Rattle.stars_core.specs.declared.refusal.TextKind.TheVariants.{Rules, Catalogue, Query, Derivation}
 use Rattle.stars_core.specs.declared.refusal.Refusal.{Refusal}
 use Rattle.stars_core.specs.declared.refusal.Refusal.TheVariants as refusals
 use Rattle.stars_core.specs.declared.status.Status.{Status}
@@ -25,6 +27,7 @@ abbrev pub prefix : TextKind → List ℕ
 prefix Rules = codes "rules: "
 prefix Catalogue = codes "catalogue: "
 prefix Query = codes "query: "
+prefix Derivation = codes "derivation: "
 
 abbrev pub too_long_line : TextKind → List ℕ
 too_long_line kind = prefix kind ++ codes "longer than 1048576 bytes" ++ 10 ∷ []
@@ -148,6 +151,22 @@ query_line (queries.Limit statement what) = Some (limit_line Query statement wha
 query_line (queries.TypeClash predicate) = Some (clash_line predicate)
 query_line queries.Memory = None
 
+-- ---- derivations alone
+
+-- by the number of the node in preorder, from 1
+abbrev pub far_down_line : ℕ → List ℕ
+far_down_line node = prefix Derivation ++ codes "node " ++ decimal node ++ codes " is too far down" ++ 10 ∷ []
+
+abbrev pub not_derived_line : ℕ → List ℕ
+not_derived_line node = prefix Derivation ++ codes "not derived at node " ++ decimal node ++ 10 ∷ []
+
+abbrev pub derivation_line : DerivFault → Option (List ℕ)
+derivation_line (derivations.Lexical offset) = Some (lexical_line Derivation offset)
+derivation_line (derivations.TooDeep statement) = Some (too_deep_line Derivation statement)
+derivation_line (derivations.Syntax statement) = Some (syntax_line Derivation statement)
+derivation_line (derivations.TooTall node) = Some (far_down_line node)
+derivation_line derivations.Memory = None
+
 abbrev pub cannot_read : List ℕ → List ℕ
 cannot_read name = codes "cannot read " ++ name ++ 10 ∷ []
 
@@ -181,15 +200,18 @@ abbrev pub refused_status : TextKind → Status
 refused_status Rules = RulesRefused
 refused_status Catalogue = CatalogueRefused
 refused_status Query = QueryRefused
+refused_status Derivation = DerivationRefused
 
 abbrev pub status_of : Refusal → Status
 status_of refusals.Usage = Usage
 status_of (refusals.Unread line) = ReadFault
 status_of (refusals.Refused kind line) = refused_status kind
+status_of (refusals.NotDerived line) = NotDerived
 status_of refusals.Memory = Memory
 
 abbrev pub line_of : Refusal → List ℕ
 line_of refusals.Usage = usage_line
 line_of (refusals.Unread line) = string_bytes line
 line_of (refusals.Refused kind line) = string_bytes line
+line_of (refusals.NotDerived line) = string_bytes line
 line_of refusals.Memory = out_of_memory

@@ -7,14 +7,13 @@ use Rattle.star_model.specs.declared.query.Query.{Query as QueryTree}
 use Rattle.star_model.specs.declared.derivations.Deriv.{Deriv}
 use Rattle.star_model.specs.declared.plans.Props.{Props}
 use Rattle.spelling.specs.Derivations.{canonical}
+use Rattle.spelling.specs.Layout.{commented}
 use Rattle.stars_core.specs.declared.status.Ending.{Ending}
 use Rattle.stars_core.specs.declared.status.Ending.TheVariants as endings
 
-abbrev pub numbers_line_of : ℕ → ℕ → ℕ → List ℕ
-numbers_line_of cost rescan card = codes "# cost " ++ decimal cost ++ codes " rescan " ++ decimal rescan ++ codes " card " ++ decimal card ++ 10 ∷ []
-
-abbrev pub numbers_line : Props → List ℕ
-numbers_line v = numbers_line_of v.cost v.rescan v.card
+-- the numbers of a plan
+abbrev pub numbers : Props → List ℕ
+numbers v = codes " cost " ++ decimal v.cost ++ codes " rescan " ++ decimal v.rescan ++ codes " card " ++ decimal v.card
 
 abbrev pub no_plan : List ℕ
 no_plan = codes "no plan" ++ 10 ∷ []
@@ -25,5 +24,5 @@ HasNoPlan rules query = (d : Deriv) (v : Props) → IsRoot query rules d v → �
 
 -- how planning ends, and the text of each end
 abbrev pub PlanText : RuleFile → QueryTree → Ending → List ℕ → Type 0
-PlanText rules query endings.Done text = (d : Deriv) × (v : Props) × IsLeast query rules d v × (text ≡ numbers_line v ++ canonical d)
+PlanText rules query endings.Done text = (d : Deriv) × (v : Props) × IsLeast query rules d v × (text ≡ commented (numbers v) (canonical d))
 PlanText rules query endings.NoPlan text = HasNoPlan rules query × (text ≡ no_plan)

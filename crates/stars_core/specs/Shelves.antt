@@ -5,7 +5,7 @@ use Rattle.sb_outside.specs.Counts.{RoseBy}
 use Rattle.sb_outside.specs.Shelf.{Files, ShelfState, GoesBy, FailsAt, NoFault, TellsBytes, TellsMore}
 use Rattle.stars_core.specs.declared.refusal.TextKind.{TextKind}
 use Rattle.stars_core.specs.declared.refusal.Refusal.{Refusal}
-use Rattle.stars_core.specs.declared.refusal.Refusal.TheVariants.{Usage, Unread, Refused, Memory}
+use Rattle.stars_core.specs.declared.refusal.Refusal.TheVariants.{Usage, Unread, Refused, NotDerived, Memory}
 use Rattle.stars_core.specs.declared.status.Ending.{Ending}
 use Rattle.stars_core.specs.declared.answer.Answer.{Answer}
 use Rattle.stars_core.specs.declared.case.Case.{Case}
@@ -14,7 +14,7 @@ use Rattle.stars_core.specs.CommandLine.{Request, CommandLine, requests_of, thre
 use Rattle.stars_core.specs.Lines.{cannot_read, too_long_line}
 use Rattle.stars_core.specs.Given.{Given}
 use Rattle.stars_core.specs.Faults.{Stops, PassAll}
-use Rattle.stars_core.specs.Saying.{SaysCase, IsAnswer, three}
+use Rattle.stars_core.specs.Saying.{SaysCase, IsAnswer, IsDenied, three}
 
 -- These are texts of what is asked for, and those that the shelf holds, where it tells.
 abbrev pub HeldAs : Option Files → List Request → List Given → Type 0
@@ -31,6 +31,7 @@ NotFetched before now request (Unread line) = FailsAt before now (false, request
 NotFetched before now request (Refused kind line) =
     NoFault before now × (kind ≡ request.0) × (string_bytes line ≡ too_long_line kind)
     × TellsMore before.held request.1 1048576 × RoseBy 1048577 before.taken now.taken
+NotFetched before now request (NotDerived line) = ⊥
 NotFetched before now request Memory = Unit {0}
 
 -- a file was fetched, or why not
@@ -51,6 +52,7 @@ abbrev pub NotTaken : (List ℕ → List ℕ → Type 0) → ShelfState → Shel
 NotTaken P before now request Usage = ⊥
 NotTaken P before now request (Unread line) = FailsAt before now (false, request.1) × (string_bytes line ≡ cannot_read request.1)
 NotTaken P before now request (Refused kind line) = (kind ≡ request.0) × StopTaken P before now request (string_bytes line)
+NotTaken P before now request (NotDerived line) = ⊥
 NotTaken P before now request Memory = Unit {0}
 
 -- a file was read and its text says this, or why not
@@ -86,11 +88,17 @@ RefusedAt before now requests kind line =
     (place : ℕ) × (this : Request) × (earlier : List Given) × (bytes : List ℕ) × CameTo before now requests place this earlier
     × (kind ≡ this.0) × Stopping before now line this earlier bytes
 
-abbrev pub RanInto : ShelfState → ShelfState → List Request → Refusal → Type 0
-RanInto before now requests Usage = ⊥
-RanInto before now requests (Unread line) = UnreadAt before now requests (string_bytes line)
-RanInto before now requests (Refused kind line) = RefusedAt before now requests kind (string_bytes line)
-RanInto before now requests Memory = Unit {0}
+-- the requests stand for texts that are accepted, and of what they say the command denies what it is for
+abbrev pub DeniedOf : Command → ShelfState → ShelfState → List Request → List ℕ → Type 0
+DeniedOf command before now requests line =
+    NoFault before now × (given : List Given) × HeldAs before.held requests given × PassAll [] given × IsDenied command given line
+
+abbrev pub RanInto : Command → ShelfState → ShelfState → List Request → Refusal → Type 0
+RanInto command before now requests Usage = ⊥
+RanInto command before now requests (Unread line) = UnreadAt before now requests (string_bytes line)
+RanInto command before now requests (Refused kind line) = RefusedAt before now requests kind (string_bytes line)
+RanInto command before now requests (NotDerived line) = DeniedOf command before now requests (string_bytes line)
+RanInto command before now requests Memory = Unit {0}
 
 -- the files so far were read and are accepted, and the shelf didn't fail
 pub record CameAlong (before now : ShelfState) (front : List Request) (earlier : List Given) : Type 0 where
@@ -105,7 +113,7 @@ CaseTaken before now rules catalogue query (Ok case) =
     (r : List ℕ) × (c : List ℕ) × (q : List ℕ) × CameAlong before now (three_requests rules catalogue query) (three r c q)
     × SaysCase r c q case.rules case.query
 CaseTaken before now rules catalogue query (Err refusal) =
-    (later : List Request) → RanInto before now (three_requests rules catalogue query ++ later) refusal
+    (command : Command) (later : List Request) → RanInto command before now (three_requests rules catalogue query ++ later) refusal
 
 -- the requests stand for texts that are accepted, and this is the command's answer of what they say
 abbrev pub IsAnswered : Command → Option Files → List Request → Ending → List ℕ → Type 0
@@ -118,7 +126,7 @@ Puts command told words ending pieces = (text : List ℕ) × IsAnswered command 
 -- the command's answer was made of its files, or why not
 abbrev pub Ran : Command → ShelfState → ShelfState → List Request → Result Answer Refusal → Type 0
 Ran command before now requests (Ok answer) = NoFault before now × IsAnswered command before.held requests answer.ending answer.text.items
-Ran command before now requests (Err refusal) = RanInto before now requests refusal
+Ran command before now requests (Err refusal) = RanInto command before now requests refusal
 
 -- what the words made of the shelf
 abbrev pub Composed : ShelfState → ShelfState → CommandLine → Option Command → Result Answer Refusal → Type 0

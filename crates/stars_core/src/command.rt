@@ -12,6 +12,8 @@ pub enum Command {
     Plan,
     /// `frontier RULES CATALOGUE QUERY` puts a line for each vector of the query's goal to which no other is better.
     Frontier,
+    /// `verify RULES CATALOGUE QUERY DERIVATION` puts the numbers of the derivation's plan, where it is one of the query by the rules.
+    Verify,
 }
 
 impl Command {
@@ -22,6 +24,7 @@ impl Command {
         match self {
             Command::Check => 1,
             Command::Plan | Command::Frontier => 3,
+            Command::Verify => 4,
         }
     }
 }
@@ -41,6 +44,8 @@ fn named(word: &str) -> Option<Command>
         Some(Command::Plan)
     } else if word == "frontier" {
         Some(Command::Frontier)
+    } else if word == "verify" {
+        Some(Command::Verify)
     } else {
         None
     }

@@ -2,17 +2,19 @@
 ghost use Rattle.std.specs.Prelude.{◌≡◌, ◌≤◌, length, Some};
 ghost use Rattle.star_model.specs.WellFormed.{WellFormedCatalogue};
 ghost use Rattle.spelling.specs.RuleLimits.{WellFormedRules};
-ghost use Rattle.stars_core.specs.Lines.{rules_line, catalogue_line, query_line};
-ghost use Rattle.stars_core.specs.Judging.{Refuses, SizeJudged, RulesRead, RulesChecked, JudgedRules, JudgedCatalogue, JudgedQuery};
+ghost use Rattle.stars_core.specs.Lines.{rules_line, catalogue_line, query_line, derivation_line};
+ghost use Rattle.stars_core.specs.Judging.{Refuses, SizeJudged, RulesRead, RulesChecked, JudgedRules, JudgedCatalogue, JudgedQuery, JudgedDerivation};
 
-use crate::lines::{catalogue_line, query_line, too_long_line};
+use crate::lines::{catalogue_line, derivation_line, query_line, too_long_line};
 use crate::read::LIMIT;
 use crate::rule_lines::rules_line;
 use crate::{Refusal, TextKind};
 use catalogue::{CatFault, read_catalogue};
+use derivation_print::{DerivFault, read_derivation};
 use query_graph::{QueryFault, read_query};
 use star_check::{CheckedRules, check_rules};
 use star_model::catalogue::Catalogue;
+use star_model::derivations::Deriv;
 use star_model::faults::RuleFault;
 use star_model::query::Query;
 use star_model::rules::RuleFile;
@@ -52,6 +54,15 @@ fn misread_query(alloc: Global, fault: QueryFault) -> Refusal
 {
     match query_line(alloc, fault) {
         Ok(line) => Refusal::Refused(TextKind::Query, line),
+        Err(_) => Refusal::Memory,
+    }
+}
+
+fn misread_derivation(alloc: Global, fault: DerivFault) -> Refusal
+    ensures { Refuses TextKind.Derivation (λ line. derivation_line fault ≡ Some line) result }
+{
+    match derivation_line(alloc, fault) {
+        Ok(line) => Refusal::Refused(TextKind::Derivation, line),
         Err(_) => Refusal::Memory,
     }
 }
@@ -108,5 +119,16 @@ pub fn judge_query(alloc: Global, catalogue: &Catalogue, bytes: &[u8]) -> Result
     match read_query(alloc, catalogue, bytes) {
         Ok(query) => Ok(query),
         Err(fault) => Err(misread_query(alloc, fault)),
+    }
+}
+
+/// The derivation that a text says, or its first fault.
+pub fn judge_derivation(alloc: Global, bytes: &[u8]) -> Result<Deriv, Refusal>
+    ensures { JudgedDerivation bytes.now result }
+{
+    check_size(alloc, TextKind::Derivation, bytes)?;
+    match read_derivation(alloc, bytes) {
+        Ok(derivation) => Ok(derivation),
+        Err(fault) => Err(misread_derivation(alloc, fault)),
     }
 }

@@ -1,9 +1,10 @@
 // The lines that tell the faults of a text.
 ghost use Rattle.std.specs.Prelude.{◌≡◌, ◌++◌, IfOk, Some, codes, string_bytes};
-ghost use Rattle.stars_core.specs.Lines.{prefix, too_long_line, lexical_line, statement_line, unknown_line, twice_line, limit_word, limit_line, clash_line, catalogue_line, query_line};
+ghost use Rattle.stars_core.specs.Lines.{prefix, too_long_line, lexical_line, statement_line, unknown_line, twice_line, limit_word, limit_line, clash_line, catalogue_line, query_line, far_down_line, derivation_line, not_derived_line};
 
 use crate::TextKind;
 use catalogue::CatFault;
+use derivation_print::DerivFault;
 use query_graph::QueryFault;
 use star_model::faults::LimitKind;
 use std::alloc::{AllocError, Global};
@@ -15,6 +16,7 @@ fn prefix(kind: TextKind) -> &'static str
         TextKind::Rules => "rules: ",
         TextKind::Catalogue => "catalogue: ",
         TextKind::Query => "query: ",
+        TextKind::Derivation => "derivation: ",
     }
 }
 
@@ -146,4 +148,38 @@ pub fn query_line(alloc: Global, fault: QueryFault) -> Result<String, AllocError
         QueryFault::TypeClash(predicate) => clash_line(alloc, predicate),
         QueryFault::Memory => Err(AllocError),
     }
+}
+
+fn far_down_line(alloc: Global, node: u32) -> Result<String, AllocError>
+    ensures { IfOk result (λ line. string_bytes line ≡ far_down_line node) }
+{
+    let prefix = prefix(TextKind::Derivation);
+    format!(in alloc; "{prefix}node {node} is too far down\n")
+}
+
+/// The line of a fault of a derivation's text. Want of memory is told as itself.
+pub fn derivation_line(alloc: Global, fault: DerivFault) -> Result<String, AllocError>
+    ensures { IfOk result (λ line. derivation_line fault ≡ Some (string_bytes line)) }
+{
+    let kind = TextKind::Derivation;
+    match fault {
+        DerivFault::Lexical(offset) => lexical_line(alloc, kind, offset),
+        DerivFault::TooDeep(statement) => statement_line(alloc, kind, statement, "is too deep"),
+        DerivFault::Syntax(statement) => statement_line(
+            alloc,
+            kind,
+            statement,
+            "is not understood",
+        ),
+        DerivFault::TooTall(node) => far_down_line(alloc, node),
+        DerivFault::Memory => Err(AllocError),
+    }
+}
+
+// Of a derivation that isn't one of the query by the rules: its first invalid node, counted from 1 in preorder.
+pub fn not_derived_line(alloc: Global, node: u32) -> Result<String, AllocError>
+    ensures { IfOk result (λ line. string_bytes line ≡ not_derived_line node) }
+{
+    let prefix = prefix(TextKind::Derivation);
+    format!(in alloc; "{prefix}not derived at node {node}\n")
 }

@@ -1,9 +1,10 @@
 // The text of a least plan.
-ghost use Rattle.std.specs.Prelude.{◌≡◌, ◌++◌, IfOk, string_bytes};
+ghost use Rattle.std.specs.Prelude.{◌≡◌, IfOk, string_bytes};
 ghost use Rattle.star_model.specs.WellFormed.{WellFormedQuery};
 ghost use Rattle.lolepop.specs.Derived.{vector_of};
 ghost use Rattle.spelling.specs.Derivations.{canonical};
-ghost use Rattle.stars_core.specs.Plan.{PlanText, numbers_line_of, numbers_line, no_plan};
+ghost use Rattle.spelling.specs.Layout.{commented};
+ghost use Rattle.stars_core.specs.Plan.{PlanText, numbers, no_plan};
 ghost use Rattle.stars_core.specs.declared.status.Ending.TheVariants.{Planned, Unplanned};
 
 use crate::{Answer, Ending};
@@ -11,33 +12,35 @@ use derivation_print::print_derivation;
 use lolepop::Best;
 use star_check::CheckedRules;
 use star_expand::best;
+use star_model::plans::Props;
 use star_model::query::Query;
 use std::alloc::{AllocError, Global};
 
-fn numbers_line(alloc: Global, cost: u64, rescan: u64, card: u64) -> Result<String, AllocError>
-    ensures { IfOk result (λ line. string_bytes line ≡ numbers_line_of cost rescan card) }
+// The cost, the rescan cost and the cardinality of a plan, as they stand in a line.
+pub fn numbers(alloc: Global, props: &Props) -> Result<String, AllocError>
+    ensures { IfOk result (λ text. string_bytes text ≡ numbers props.now) }
 {
-    let mut line = format!(in alloc; "# cost {cost}")?;
+    let cost = props.cost.get();
+    let rescan = props.rescan.get();
+    let card = props.card.get();
+    let mut text = format!(in alloc; " cost {cost}")?;
     let rescan = format!(in alloc; " rescan {rescan}")?;
-    let card = format!(in alloc; " card {card}\n")?;
-    line.push_str(rescan.as_str())?;
-    line.push_str(card.as_str())?;
-    Ok(line)
+    let card = format!(in alloc; " card {card}")?;
+    text.push_str(rescan.as_str())?;
+    text.push_str(card.as_str())?;
+    Ok(text)
 }
 
-// The numbers of a plan, and its derivation.
+// The numbers of a plan in a comment, and its derivation.
 fn plan_text(alloc: Global, plan: &Best) -> Result<Vec<u8>, AllocError>
-    ensures { IfOk result (λ text. text.items ≡ numbers_line (vector_of plan.now) ++ canonical plan.now.deriv) }
+    ensures { IfOk result (λ text. text.items ≡ commented (numbers (vector_of plan.now)) (canonical plan.now.deriv)) }
 {
-    let props = plan.node.props();
-    let line = numbers_line(
-        alloc,
-        props.cost.get(),
-        props.rescan.get(),
-        props.card.get(),
-    )?;
+    let numbers = numbers(alloc, plan.node.props())?;
     let derivation = print_derivation(alloc, &plan.deriv)?;
-    let mut text = line.into_bytes();
+    let mut text = Vec::new(alloc);
+    text.extend_from_slice(b"#")?;
+    text.extend_from_slice(numbers.as_bytes())?;
+    text.extend_from_slice(b"\n")?;
     text.extend_from_slice(derivation.as_slice())?;
     Ok(text)
 }

@@ -12,6 +12,7 @@ pub enum TextKind {
     Rules,
     Catalogue,
     Query,
+    Derivation,
 }
 
 /// Why a command has no output. A refusal carries its finished line, so that telling it takes no memory.
@@ -23,6 +24,8 @@ pub enum Refusal {
     Unread(String),
     /// A text of this kind has a fault, which the line tells.
     Refused(TextKind, String),
+    /// A derivation is not one of the query by the rules; the line names its first invalid node.
+    NotDerived(String),
     /// Memory was wanting.
     Memory,
 }
@@ -46,6 +49,8 @@ impl Refusal {
             Refusal::Refused(TextKind::Rules, _) => Status::RulesRefused,
             Refusal::Refused(TextKind::Catalogue, _) => Status::CatalogueRefused,
             Refusal::Refused(TextKind::Query, _) => Status::QueryRefused,
+            Refusal::Refused(TextKind::Derivation, _) => Status::DerivationRefused,
+            Refusal::NotDerived(_) => Status::NotDerived,
             Refusal::Memory => Status::Memory,
         }
     }
@@ -57,7 +62,7 @@ impl Refusal {
         match self {
             Refusal::Usage => "usage: stars COMMAND FILE...\n",
             Refusal::Unread(line) => line.as_str(),
-            Refusal::Refused(_, line) => line.as_str(),
+            Refusal::Refused(_, line) | Refusal::NotDerived(line) => line.as_str(),
             Refusal::Memory => "out of memory\n",
         }
     }

@@ -1,14 +1,15 @@
 // The files of a command, each fetched and judged.
 ghost use Rattle.star_model.specs.WellFormed.{WellFormedCatalogue};
 ghost use Rattle.sb_outside.specs.Shelf.{Goes, GoesBy};
-ghost use Rattle.stars_core.specs.Judging.{RulesPass, CataloguePasses, QueryPasses, StopsAlways, StopsOver};
+ghost use Rattle.stars_core.specs.Judging.{RulesPass, CataloguePasses, QueryPasses, DerivationPasses, StopsAlways, StopsOver};
 ghost use Rattle.stars_core.specs.Shelves.{Taken, CaseTaken};
 
 use crate::read::fetch;
-use crate::{Case, Refusal, TextKind, judge_catalogue, judge_query, judge_rules};
+use crate::{Case, Refusal, TextKind, judge_catalogue, judge_derivation, judge_query, judge_rules};
 use sb_outside::Shelf;
 use star_check::CheckedRules;
 use star_model::catalogue::Catalogue;
+use star_model::derivations::Deriv;
 use star_model::query::Query;
 use std::alloc::Global;
 
@@ -49,6 +50,19 @@ fn take_query<S: Shelf>(
 {
     let text = fetch(alloc, shelf, TextKind::Query, name)?;
     judge_query(alloc, catalogue, text.as_slice())
+}
+
+// The derivation of the file of this name.
+pub fn take_derivation<S: Shelf>(
+    alloc: Global,
+    shelf: &mut S,
+    name: &str,
+) -> Result<Deriv, Refusal>
+    ensures goes { Goes (S.state shelf.old) (S.state shelf.new) }
+    ensures taken { Taken DerivationPasses (StopsAlways TextKind.Derivation) (S.state shelf.old) (S.state shelf.new) (TextKind.Derivation, name.now) result }
+{
+    let text = fetch(alloc, shelf, TextKind::Derivation, name)?;
+    judge_derivation(alloc, text.as_slice())
 }
 
 // What the three files of these names say.

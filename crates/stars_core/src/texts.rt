@@ -3,12 +3,12 @@
 // These calls have no premise on where the texts come from, so they say of the bytes of real files what `stars` says of a
 // shelf that tells what it holds.
 ghost use Rattle.std.specs.Prelude.{[], ◌∷◌};
-ghost use Rattle.stars_core.specs.Saying.{three};
+ghost use Rattle.stars_core.specs.Saying.{three, four};
 ghost use Rattle.stars_core.specs.Judged.{AnswersOf, CaseOf};
 
 use crate::{
-    Answer, Case, Command, Refusal, TextKind, frontier_query, judge_catalogue, judge_query,
-    judge_rules, plan_query, print_checked,
+    Answer, Case, Command, Refusal, TextKind, frontier_query, judge_catalogue, judge_derivation,
+    judge_query, judge_rules, plan_query, print_checked, verify_query,
 };
 use std::alloc::Global;
 
@@ -62,4 +62,19 @@ pub fn frontier_texts(
     let case = judge_case(alloc, rules, catalogue, query)?;
     let answer = frontier_query(alloc, &case.rules, &case.query)?;
     Ok(answer)
+}
+
+/// The numbers of a derivation's plan, or its first invalid node, or the first fault of four texts.
+pub fn verify_texts(
+    alloc: Global,
+    rules: &[u8],
+    catalogue: &[u8],
+    query: &[u8],
+    derivation: &[u8],
+) -> Result<Answer, Refusal>
+    ensures { AnswersOf Command.Verify (four rules.now catalogue.now query.now derivation.now) result }
+{
+    let case = judge_case(alloc, rules, catalogue, query)?;
+    let derivation = judge_derivation(alloc, derivation)?;
+    verify_query(alloc, &case.rules, &case.query, &derivation)
 }
