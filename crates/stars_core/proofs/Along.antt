@@ -4,7 +4,8 @@ use Rattle.std.specs.Prelude.{slice_get}
 use Rattle.sb_outside.specs.Shelf.{Files, ShelfState, Goes, GoesBy, NoFault, TellsBytes}
 use Rattle.sb_outside.proofs.Laws.{no_call, goes_on, no_fault_on, fails_on}
 use Rattle.stars_core.specs.declared.refusal.Refusal.{Refusal}
-use Rattle.stars_core.specs.declared.refusal.Refusal.TheVariants.{Usage, Unread, Refused, Memory}
+use Rattle.stars_core.specs.declared.refusal.Refusal.TheVariants.{Usage, Unread, Refused, NotDerived, Memory}
+use Rattle.stars_core.specs.declared.command.Command.{Command}
 use Rattle.stars_core.specs.CommandLine.{Request}
 use Rattle.stars_core.specs.Given.{Given}
 use Rattle.stars_core.specs.Faults.{Stops, Passes, PassAll}
@@ -37,10 +38,10 @@ starts before = record {
 
 module _ (before mid now : ShelfState) (front later : List Request) (this : Request) (earlier : List Given) where
   -- the next file isn't taken
-  pub stopped : (P : List ℕ → List ℕ → Type 0) (refusal : Refusal) → CameAlong before mid front earlier → Goes mid now
-      → ((bytes line : List ℕ) → P bytes line → Stops earlier (this.0, bytes) line) → NotTaken P mid now this refusal → RanInto before now (front ++ this ∷ later) refusal
-  stopped P Usage along goes stops not = not
-  stopped P (Unread line) along goes stops not =
+  pub stopped : (command : Command) (P : List ℕ → List ℕ → Type 0) (refusal : Refusal) → CameAlong before mid front earlier → Goes mid now
+      → ((bytes line : List ℕ) → P bytes line → Stops earlier (this.0, bytes) line) → NotTaken P mid now this refusal → RanInto command before now (front ++ this ∷ later) refusal
+  stopped command P Usage along goes stops not = not
+  stopped command P (Unread line) along goes stops not =
       let by = along.by in (
         length front,
         this,
@@ -49,7 +50,7 @@ module _ (before mid now : ShelfState) (front later : List Request) (this : Requ
         fails_on before mid now (false, this.1) along.quiet not.0,
         not.1,
       )
-  stopped P (Refused kind line) along goes stops not =
+  stopped command P (Refused kind line) along goes stops not =
       let by = along.by in
       let taken = not.1 in
       let told : TellsBytes before.held this.1 taken.bytes = rw (← by.held) taken.told in (
@@ -66,7 +67,8 @@ module _ (before mid now : ShelfState) (front later : List Request) (this : Requ
           too_long = λ long. let rose = taken.too_long long in omega arith;
         },
       )
-  stopped P Memory along goes stops not = tt
+  stopped command P (NotDerived line) along goes stops not = absurd not
+  stopped command P Memory along goes stops not = tt
 
   -- the next file is taken, and its text is accepted
   pub goes_along : (bytes : List ℕ) → CameAlong before mid front earlier → Goes mid now → NoFault mid now → TellsBytes mid.held this.1 bytes → Passes earlier (this.0, bytes)

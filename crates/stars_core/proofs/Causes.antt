@@ -5,9 +5,9 @@ use Rattle.sb_outside.specs.Counts.{Rose, RoseAtMost}
 use Rattle.sb_outside.specs.Shelf.{ShelfState}
 use Rattle.sb_outside.specs.Sink.{SinkState, Adds, AddsPrefix}
 use Rattle.stars_core.specs.declared.command.Command.{Command}
-use Rattle.stars_core.specs.declared.refusal.TextKind.TheVariants.{Rules, Catalogue, Query}
+use Rattle.stars_core.specs.declared.refusal.TextKind.TheVariants.{Rules, Catalogue, Query, Derivation}
 use Rattle.stars_core.specs.declared.refusal.Refusal.{Refusal}
-use Rattle.stars_core.specs.declared.refusal.Refusal.TheVariants.{Usage, Unread, Refused, Memory}
+use Rattle.stars_core.specs.declared.refusal.Refusal.TheVariants.{Usage, Unread, Refused, NotDerived, Memory}
 use Rattle.stars_core.specs.declared.status.Ending.{Ending}
 use Rattle.stars_core.specs.declared.status.Status.TheVariants as statuses
 use Rattle.stars_core.specs.declared.answer.Answer.{Answer}
@@ -23,12 +23,15 @@ pub answered_at : (words : CommandLine) (refusal : Refusal) (command : Option Co
 answered_at words Usage None shelf shelf' out err err' is composed put = (refl, line_of Usage, (is, composed.0, refl), put)
 answered_at words (Unread line) None shelf shelf' out err err' is composed put = cc
 answered_at words (Refused kind line) None shelf shelf' out err err' is composed put = cc
+answered_at words (NotDerived line) None shelf shelf' out err err' is composed put = cc
 answered_at words Memory None shelf shelf' out err err' is composed put = cc
 answered_at words Usage (Some command) shelf shelf' out err err' is composed put = absurd composed.1
 answered_at words (Unread line) (Some command) shelf shelf' out err err' is composed put = (refl, string_bytes line, rw is composed.1, put)
 answered_at words (Refused Rules line) (Some command) shelf shelf' out err err' is composed put = (refl, string_bytes line, rw is composed.1, put)
 answered_at words (Refused Catalogue line) (Some command) shelf shelf' out err err' is composed put = (refl, string_bytes line, rw is composed.1, put)
 answered_at words (Refused Query line) (Some command) shelf shelf' out err err' is composed put = (refl, string_bytes line, rw is composed.1, put)
+answered_at words (Refused Derivation line) (Some command) shelf shelf' out err err' is composed put = (refl, string_bytes line, rw is composed.1, put)
+answered_at words (NotDerived line) (Some command) shelf shelf' out err err' is composed put = (refl, string_bytes line, rw is composed.1, put)
 answered_at words Memory (Some command) shelf shelf' out err err' is composed put = (refl, line_of Memory, (rw is refl, refl), put)
 
 -- all was put out

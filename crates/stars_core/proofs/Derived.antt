@@ -21,8 +21,7 @@ use Rattle.stars_core.specs.CommandLine.{CommandLine, Request, command_of, reque
 use Rattle.stars_core.specs.Lines.{refused_status}
 use Rattle.stars_core.specs.Given.{Given}
 use Rattle.stars_core.specs.Faults.{Stops, PassAll}
-use Rattle.stars_core.specs.Plan.{PlanText}
-use Rattle.stars_core.specs.Saying.{Saying, Says, AnswerText}
+use Rattle.stars_core.specs.Saying.{Saying, Says, AnswerText, Denied, IsDenied}
 use Rattle.stars_core.specs.Shelves.{HeldAs, RefusedAt, IsAnswered, Puts}
 use Rattle.stars_core.specs.Answers.{OfCommand, Answered, Complete, AllTold, Ends, RefusedExactly, StopTold, LinePut}
 use Rattle.stars_core.proofs.Says.{one_reading}
@@ -127,22 +126,35 @@ same_answer command files requests given saying ending text held says a =
     let says' : Says command given is.saying = subst (λ (g : List Given). Says command g is.saying) texts is.says in
     subst (λ (x : Saying command). AnswerText command x ending text) (one_reading command given is.saying saying says' says) is.answer
 
--- a command that ends with a plan has one behind it
-has_plan : (rules : RuleFile) (query : QueryTree) (text : List ℕ) → PlanText rules query endings.Done text → (d : Deriv) × (v : Props) × IsRoot query rules d v
-has_plan rules query text answer = (answer.0, answer.1, answer.2.root)
-
 -- what has to be put where the command is done
 done_ends : (command : Command) (given : List Given) (saying : Saying command) (text : List ℕ) → Says command given saying → AnswerText command saying endings.Done text → Ends command saying Done
 done_ends commands.Check given rules text says answer = refl
-done_ends commands.Plan given saying text says answer = inl (refl, has_plan saying.0 saying.1 text answer)
+done_ends commands.Plan given saying text says answer = inl (refl, answer.0, answer.1, answer.2.root)
 done_ends commands.Frontier given saying text says answer =
     inl (refl, some_listed saying.1 saying.0 says.formed says.of_rules.accepted answer.0 answer.1 answer.2)
+done_ends commands.Verify given saying text says answer = inl (refl, answer.1, answer.2)
 
 -- and where there is no plan
 none_ends : (command : Command) (saying : Saying command) (text : List ℕ) → AnswerText command saying endings.NoPlan text → Ends command saying NoPlan
 none_ends commands.Check rules text answer = let e : endings.NoPlan ≡ endings.Done = answer.0 in absurd cc
 none_ends commands.Plan saying text answer = inr (refl, answer.0)
 none_ends commands.Frontier saying text answer = inr (refl, answer.0)
+none_ends commands.Verify saying text answer = let e : endings.NoPlan ≡ endings.Done = answer.0 in absurd cc
+
+-- and where the command denies what it is for
+denied_ends : (command : Command) (saying : Saying command) (line : List ℕ) → Denied command saying line → Ends command saying NotDerived
+denied_ends commands.Check rules line denied = absurd denied
+denied_ends commands.Plan saying line denied = absurd denied
+denied_ends commands.Frontier saying line denied = absurd denied
+denied_ends commands.Verify saying line denied = inr (refl, denied.no_root)
+
+-- what is denied of told texts is denied of what they say
+same_denial : (command : Command) (files : Files) (requests : List Request) (given other : List Given) (saying : Saying command) (line : List ℕ)
+    → HeldAs (Some files) requests given → HeldAs (Some files) requests other → Says command given saying → IsDenied command other line → Denied command saying line
+same_denial command files requests given other saying line held held' says is =
+    let texts : other ≡ given = same_texts files requests other given held' held in
+    let says' : Says command given is.saying = subst (λ (g : List Given). Says command g is.saying) texts is.says in
+    subst (λ (x : Saying command). Denied command x line) (one_reading command given is.saying saying says' says) is.denied
 
 -- a text that is refused where all that are asked for are accepted
 refused_told : (kind : TextKind) (words : CommandLine) (shelf shelf' : ShelfState) (line : List ℕ) (command : Command) (given : List Given) (saying : Saying command)
@@ -174,8 +186,12 @@ complete WriteFault words shelf shelf' out out' err err' answered command given 
     let a = rw told.listed at answered in absurd (quiet_out a.4.rose)
 complete Memory words shelf shelf' out out' err err' answered command given saying told quiet_shelf quiet_out = inl refl
 complete TableRefused words shelf shelf' out out' err err' answered command given saying told quiet_shelf quiet_out = absurd answered.2
-complete NotDerived words shelf shelf' out out' err err' answered command given saying told quiet_shelf quiet_out = absurd answered.2
-complete DerivationRefused words shelf shelf' out out' err err' answered command given saying told quiet_shelf quiet_out = absurd answered.2
+complete NotDerived words shelf shelf' out out' err err' answered command given saying told quiet_shelf quiet_out =
+    let a = rw told.listed at answered.2 in
+    let held = rw told.told at a.2 in
+    inr (denied_ends command saying answered.1 (same_denial command told.files (requests_of command words) given a.1 saying answered.1 told.held held told.says a.4))
+complete DerivationRefused words shelf shelf' out out' err err' answered command given saying told quiet_shelf quiet_out =
+    absurd (refused_told kinds.Derivation words shelf shelf' answered.1 command given saying told answered.2)
 complete SessionRefused words shelf shelf' out out' err err' answered command given saying told quiet_shelf quiet_out = absurd answered.2
 complete CertificateRefused words shelf shelf' out out' err err' answered command given saying told quiet_shelf quiet_out = absurd answered.2
 
@@ -222,7 +238,10 @@ refused_exactly ReadFault words shelf shelf' out out' err err' answered place th
     let u = rw st.listed at answered.2 in absurd (quiet u.4.rose)
 refused_exactly Memory words shelf shelf' out out' err err' answered place this earlier bytes line st quiet = inl refl
 refused_exactly TableRefused words shelf shelf' out out' err err' answered place this earlier bytes line st quiet = absurd answered.2
-refused_exactly NotDerived words shelf shelf' out out' err err' answered place this earlier bytes line st quiet = absurd answered.2
-refused_exactly DerivationRefused words shelf shelf' out out' err err' answered place this earlier bytes line st quiet = absurd answered.2
+refused_exactly NotDerived words shelf shelf' out out' err err' answered place this earlier bytes line st quiet =
+    let a = rw st.listed at answered.2 in
+    absurd (none_stops st.files [] (requests_of st.command words) a.1 place this earlier bytes line (rw st.told at a.2) a.3 st.here st.held st.bytes_held st.stops)
+refused_exactly DerivationRefused words shelf shelf' out out' err err' answered place this earlier bytes line st quiet =
+    inr (refused_same kinds.Derivation words shelf shelf' err err' place this earlier bytes line answered.1 st (rw st.listed at answered.2) answered.3)
 refused_exactly SessionRefused words shelf shelf' out out' err err' answered place this earlier bytes line st quiet = absurd answered.2
 refused_exactly CertificateRefused words shelf shelf' out out' err err' answered place this earlier bytes line st quiet = absurd answered.2

@@ -19,17 +19,22 @@ use Rattle.query_graph.specs.declared.fault.QueryFault.TheVariants as que
 use Rattle.catalogue.specs.Faults as catalogue_faults
 use Rattle.catalogue.proofs.Laws as catalogue_laws
 use Rattle.query_graph.proofs.Laws as query_laws
+use Rattle.derivation_reading.specs.declared.fault.DerivFault.{DerivFault}
+use Rattle.derivation_reading.specs.declared.fault.DerivFault.TheVariants as der
+use Rattle.derivation_reading.specs.Faults as derivations
+use Rattle.derivation_reading.proofs.Laws as derivation_laws
+use Rattle.star_model.specs.declared.derivations.Deriv.{Deriv}
 use Rattle.query_graph.specs.declared.fault.QueryFault.{QueryFault}
 use Rattle.query_graph.specs.Faults as queries
-use Rattle.stars_core.specs.Lines.{too_long_line, rules_line, catalogue_line, query_line}
+use Rattle.stars_core.specs.Lines.{too_long_line, rules_line, catalogue_line, query_line, derivation_line}
 use Rattle.stars_core.specs.Given.{Given, Over, catalogue_in}
 use Rattle.stars_core.specs.Faults.{Kind, TooLong, Misread, Rejected, IsMisread, IsRejected, HasFault, First, Clear, Stops, Passes, Verdict, Accepted, Stopped, Judged, faults_of, PassAll}
 use Rattle.stars_core.specs.declared.refusal.TextKind.{TextKind}
-use Rattle.stars_core.specs.declared.refusal.TextKind.TheVariants.{Rules, Catalogue, Query}
+use Rattle.stars_core.specs.declared.refusal.TextKind.TheVariants.{Rules, Catalogue, Query, Derivation}
 use Rattle.stars_core.specs.declared.refusal.Refusal.{Refusal}
 use Rattle.stars_core.specs.declared.refusal.Refusal.TheVariants as refusals
-use Rattle.stars_core.specs.declared.refusal.Refusal.TheVariants.{Usage, Unread, Refused, Memory}
-use Rattle.stars_core.specs.Judging.{Refuses, RulesRead, RulesChecked, RulesPass, CataloguePasses, QueryPasses, StopsAlways, StopsOver}
+use Rattle.stars_core.specs.declared.refusal.Refusal.TheVariants.{Usage, Unread, Refused, NotDerived, Memory}
+use Rattle.stars_core.specs.Judging.{Refuses, RulesRead, RulesChecked, RulesPass, CataloguePasses, QueryPasses, DerivationPasses, StopsAlways, StopsOver}
 
 pub excludes : (has : Kind → List ℕ → Type 0) (kinds : List Kind) (line : List ℕ) → First has kinds line → Clear has kinds → ⊥
 excludes has [] line first clear = first
@@ -57,6 +62,7 @@ one_misread earlier (Catalogue, c) a b p q = one_line catalogue_line p.0 q.0 a b
 one_misread earlier (Query, d) a b p q =
     let first : queries.IsFirstFault q.0 d p.2 = subst (λ (c : CatalogueTree). queries.IsFirstFault c d p.2) (one_over earlier p.0 q.0 p.1 q.1) p.3 in
     one_line query_line p.2 q.2 a b (query_laws.one_fault q.0 d p.2 q.2 first q.3) p.4 q.4
+one_misread earlier (Derivation, d) a b p q = one_line derivation_line p.0 q.0 a b (derivation_laws.one_fault d p.0 q.0 p.1 q.1) p.2 q.2
 
 one_rejected : (this : Given) (a b : List ℕ) → IsRejected this a → IsRejected this b → a ≡ b
 one_rejected (Rules, r) a b p q =
@@ -64,6 +70,7 @@ one_rejected (Rules, r) a b p q =
     one_line rules_line p.3 q.3 a b (check_laws.one_fault q.0 p.3 q.3 q.2 refused q.4) p.5 q.5
 one_rejected (Catalogue, c) a b p q = absurd p
 one_rejected (Query, d) a b p q = absurd p
+one_rejected (Derivation, d) a b p q = absurd p
 
 one_fault : (earlier : List Given) (this : Given) (kind : Kind) (a b : List ℕ) → HasFault earlier this kind a → HasFault earlier this kind b → a ≡ b
 one_fault earlier this TooLong a b p q = p.1 ∙ sym q.1
@@ -125,6 +132,9 @@ pub query_passes : (catalogue : CatalogueTree) (q : List ℕ) (query : QueryTree
 query_passes catalogue q query pass earlier over =
     passes earlier (Query, q) pass.size (not_misread_query catalogue q query pass.read earlier over) (λ other p. p)
 
+pub derivation_passes : (d : List ℕ) (tree : Deriv) → DerivationPasses d tree → (earlier : List Given) → Passes earlier (Derivation, d)
+derivation_passes d tree pass earlier = passes earlier (Derivation, d) pass.size (λ other p. pass.read.clear p.0 p.1.has) (λ other p. p)
+
 -- all texts are accepted, and one more
 pub pass_more : (before given : List Given) (this : Given) → PassAll before given → Passes (before ++ given) this → PassAll before (given ++ this ∷ [])
 pass_more before [] this all pass = (subst (λ (l : List Given). Passes l this) (append-nil before) pass, tt)
@@ -139,10 +149,12 @@ refuses kind P line (Refused k l) is p = (is.0, subst P (sym is.1) p)
 refuses kind P line refusals.Memory is p = tt
 refuses kind P line refusals.Usage is p = is
 refuses kind P line (Unread l) is p = is
+refuses kind P line (NotDerived l) is p = is
 
 pub refuses_map : (kind : TextKind) (P Q : List ℕ → Type 0) (refusal : Refusal) → ((line : List ℕ) → P line → Q line) → Refuses kind P refusal → Refuses kind Q refusal
 refuses_map kind P Q Usage f p = p
 refuses_map kind P Q (Unread line) f p = p
+refuses_map kind P Q (NotDerived line) f p = p
 refuses_map kind P Q (Refused k line) f p = (p.0, f _ p.1)
 refuses_map kind P Q Memory f p = tt
 
@@ -154,6 +166,7 @@ long_refuses kind bytes P (Refused k l) long p = (long.0, p _ (λ earlier. long_
 long_refuses kind bytes P refusals.Memory long p = tt
 long_refuses kind bytes P refusals.Usage long p = long
 long_refuses kind bytes P (Unread l) long p = long
+long_refuses kind bytes P (NotDerived l) long p = long
 
 -- ---- rule files
 
@@ -255,3 +268,18 @@ misread_query_refuses catalogue q size fault reads refusal told =
     is_first (que.Limit k what) line told reads = reads
     is_first (que.TypeClash p) line told reads = reads
     is_first que.Memory line told reads = absurd cc
+
+-- ---- derivations
+
+pub misread_derivation_refuses : (d : List ℕ) → length d ≤ 1048576 → (fault : DerivFault) → derivations.ReadsDerivation d (Err fault)
+    → (refusal : Refusal) → Refuses Derivation (λ line. derivation_line fault ≡ Some line) refusal → Refuses Derivation (StopsAlways Derivation d) refusal
+misread_derivation_refuses d size fault reads refusal told =
+    refuses_map Derivation (λ line. derivation_line fault ≡ Some line) (StopsAlways Derivation d) refusal
+    (λ line told. λ earlier. misread_stops earlier (Derivation, d) line size (fault, is_first fault line told reads, told)) told
+  where
+    is_first : (fault : DerivFault) (line : List ℕ) → derivation_line fault ≡ Some line → derivations.ReadsDerivation d (Err fault) → derivations.IsFirstFault d fault
+    is_first (der.Lexical offset) line told reads = reads
+    is_first (der.TooDeep k) line told reads = reads
+    is_first (der.Syntax k) line told reads = reads
+    is_first (der.TooTall k) line told reads = reads
+    is_first der.Memory line told reads = absurd cc

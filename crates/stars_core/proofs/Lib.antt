@@ -3,6 +3,8 @@ pub mod FaultLaws
 pub mod Along
 pub mod Causes
 mod Endings
+mod PlanTexts
+mod Comments
 pub mod Derived
 pub mod Says
 pub mod Cases

@@ -5,7 +5,7 @@ use Rattle.sb_outside.specs.Shelf.{ShelfState, NoFault}
 use Rattle.sb_outside.proofs.Laws.{long_content}
 use Rattle.stars_core.specs.declared.refusal.TextKind.{TextKind}
 use Rattle.stars_core.specs.declared.refusal.Refusal.{Refusal}
-use Rattle.stars_core.specs.declared.refusal.Refusal.TheVariants.{Usage, Unread, Refused, Memory}
+use Rattle.stars_core.specs.declared.refusal.Refusal.TheVariants.{Usage, Unread, Refused, NotDerived, Memory}
 use Rattle.stars_core.specs.CommandLine.{Request}
 use Rattle.stars_core.specs.Lines.{too_long_line}
 use Rattle.stars_core.specs.Judging.{Refuses, JudgedAs}
@@ -28,6 +28,7 @@ module _ (P : List ℕ → List ℕ → Type 0) (before now : ShelfState) (reque
           too_long = λ _. not.4;
         },
       )
+  unfetched long (NotDerived line) not = not
   unfetched long Memory not = tt
 
   stopped : (text : Vec ℕ Global) → Fetched before now request (Ok text) → (refusal : Refusal) → Refuses request.0 (P text.items) refusal
@@ -44,6 +45,7 @@ module _ (P : List ℕ → List ℕ → Type 0) (before now : ShelfState) (reque
       too_long = λ long. absurd (omega (arith, long, fetched.2));
     },
   )
+  stopped text fetched (NotDerived line) refuses = absurd refuses
   stopped text fetched Memory refuses = tt
 
   -- a file that is fetched is judged

@@ -5,15 +5,18 @@ use Rattle.star_model.specs.declared.query.Query.{Query as QueryTree}
 use Rattle.star_model.specs.declared.rules.RuleFile.{RuleFile}
 use Rattle.spelling.specs.Catalogues.{SpellsCatalogue}
 use Rattle.spelling.specs.Queries.{SpellsQuery}
-use Rattle.spelling.proofs.Laws.{one_rule_file, one_catalogue, one_query, keeps_catalogue}
+use Rattle.spelling.proofs.Laws.{one_rule_file, one_catalogue, one_query, keeps_catalogue, one_derivation}
 use Rattle.stars_core.specs.declared.command.Command.{Command}
-use Rattle.stars_core.specs.declared.command.Command.TheVariants.{Check, Plan, Frontier}
+use Rattle.stars_core.specs.declared.command.Command.TheVariants.{Check, Plan, Frontier, Verify}
+use Rattle.stars_core.specs.declared.status.Ending.{Ending}
+use Rattle.stars_core.specs.declared.status.Ending.TheVariants as endings
 use Rattle.stars_core.specs.Given.{Given}
+use Rattle.stars_core.specs.Plan.{PlanText}
 use Rattle.stars_core.specs.Judging.{RulesPass, CataloguePasses, QueryPasses}
-use Rattle.stars_core.specs.Saying.{Saying, Says, SaysRules, SaysCase, text_at}
+use Rattle.stars_core.specs.Saying.{Saying, Says, SaysRules, SaysCase, SpelledPlan, text_at}
 
 pub says_rules : (r : List ℕ) (rules : RuleFile) → RulesPass r rules → SaysRules r rules
-says_rules r rules pass = record { of_rules = pass.read.spells; accepted = pass.accepted }
+says_rules r rules pass = record { of_rules = pass.read.spells; formed = pass.read.formed; accepted = pass.accepted }
 
 pub says_case : (r c q : List ℕ) (rules : RuleFile) (catalogue : CatalogueTree) (query : QueryTree) → RulesPass r rules → CataloguePasses c catalogue → QueryPasses catalogue q query
     → SaysCase r c q rules query
@@ -33,8 +36,20 @@ one_case r c q (a, x) (b, y) p p' =
     let rules : a ≡ b = one_rule_file r a b p.of_rules.of_rules p'.of_rules.of_rules in
     let queries : x ≡ y = one_query y.catalogue q x y of p'.of_query in cc
 
+same_triple : {A B C : Type 0} (a b : A × B × C) → (a.0, a.1) ≡ (b.0, b.1) → a.2 ≡ b.2 → a ≡ b
+same_triple (x, y, z) (x', y', z') e f = cc
+
 -- texts say at most one thing to a command
 pub one_reading : (command : Command) (given : List Given) (a b : Saying command) → Says command given a → Says command given b → a ≡ b
 one_reading Check given a b p p' = one_rule_file (text_at given 0) a b p.of_rules p'.of_rules
 one_reading Plan given a b p p' = one_case (text_at given 0) (text_at given 1) (text_at given 2) a b p p'
 one_reading Frontier given a b p p' = one_case (text_at given 0) (text_at given 1) (text_at given 2) a b p p'
+one_reading Verify given a b p p' =
+    let case : (a.0, a.1) ≡ (b.0, b.1) = one_case (text_at given 0) (text_at given 1) (text_at given 2) (a.0, a.1) (b.0, b.1) p.0 p'.0 in
+    let tree : a.2 ≡ b.2 = one_derivation (text_at given 3) a.2 b.2 p.1 p'.1 in same_triple a b case tree
+
+-- the text of a plan spells its derivation
+pub spelled_plan : (r : List ℕ) (rules : RuleFile) (query : QueryTree) → SaysRules r rules → (ending : Ending) (text : List ℕ) → PlanText rules query ending text
+    → SpelledPlan rules query ending text
+spelled_plan r rules query says endings.Done text plan = (plan.0, plan.1, plan.2, plan.3, plan.4 r says.of_rules says.formed)
+spelled_plan r rules query says endings.NoPlan text plan = plan

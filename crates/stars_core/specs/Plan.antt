@@ -6,7 +6,9 @@ use Rattle.star_model.specs.declared.rules.RuleFile.{RuleFile}
 use Rattle.star_model.specs.declared.query.Query.{Query as QueryTree}
 use Rattle.star_model.specs.declared.derivations.Deriv.{Deriv}
 use Rattle.star_model.specs.declared.plans.Props.{Props}
-use Rattle.spelling.specs.Derivations.{canonical}
+use Rattle.spelling.specs.Derivations.{SpellsDerivation, canonical}
+use Rattle.spelling.specs.Rules.{SpellsRules}
+use Rattle.spelling.specs.RuleLimits.{WellFormedRules}
 use Rattle.spelling.specs.Layout.{commented}
 use Rattle.stars_core.specs.declared.status.Ending.{Ending}
 use Rattle.stars_core.specs.declared.status.Ending.TheVariants as endings
@@ -22,7 +24,8 @@ no_plan = codes "no plan" ++ 10 ∷ []
 abbrev pub HasNoPlan : RuleFile → QueryTree → Type 0
 HasNoPlan rules query = (d : Deriv) (v : Props) → IsRoot query rules d v → ⊥
 
--- how planning ends, and the text of each end
+-- How planning ends, and the text of each end: behind the comment stands a derivation, which it spells where the rules have a text.
 abbrev pub PlanText : RuleFile → QueryTree → Ending → List ℕ → Type 0
 PlanText rules query endings.Done text = (d : Deriv) × (v : Props) × IsLeast query rules d v × (text ≡ commented (numbers v) (canonical d))
+    × ((r : List ℕ) → SpellsRules r rules → WellFormedRules rules → SpellsDerivation text d)
 PlanText rules query endings.NoPlan text = HasNoPlan rules query × (text ≡ no_plan)
