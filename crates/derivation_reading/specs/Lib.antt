@@ -1,0 +1,4 @@
+pub mod Nodes
+pub mod StatementReading
+pub mod NodeReading
+pub mod TextFaults
