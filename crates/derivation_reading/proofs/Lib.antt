@@ -1,3 +1,5 @@
 mod Loops
 mod MemberLaws
 mod SetLaws
+mod SeriesLaws
+mod StatementLaws

@@ -1,6 +1,7 @@
 -- A set between braces is read as it is spelled, and nothing else is read.
 use Rattle.std.proofs.Common.{◌≡◌, Bool, false, ℕ, zero, suc, ◌+◌, ◌-◌, ◌<◌, ◌≤◌, ◌&&◌, true, nat_lt, List, [], ◌∷◌, ◌++◌, map, length, codes, Option, Some, None, if◌then◌else◌, refl, sym, ap, ◌∙◌, subst, arith, append_assoc}
 use Rattle.std.proofs.lemmas.Bool.{lt-ltb, ltb-true, and_parts}
+use Rattle.std.proofs.lemmas.Option.{some_pair_parts}
 use Rattle.star_model.specs.Sets.{members, single, union}
 use Rattle.spelling.specs.Lexemes.{Lexeme, Number, Symbol, left_brace, right_brace, comma, joined_by}
 use Rattle.spelling.specs.Derivations.{set_lexemes, IsMask}
@@ -79,8 +80,9 @@ last_one : (least set s k : ℕ) (lexemes behind last rest : List Lexeme) → le
     → the_symbol (codes "}") behind ≡ Some (tt, last) → ◌≡◌ {A = Option (ℕ × List Lexeme)} (Some (union set (single k), last)) (Some (s, rest)) → AreRead least set lexemes s rest
 unfolding with_all
 last_one least set s k lexemes behind last rest here low high closed is =
-    let value : s ≡ union set (single k) = cc in
-    let end : last ≡ rest = cc in
+    let parts = some_pair_parts (union set (single k)) s last rest is in
+    let value = sym parts.0 in
+    let end = parts.1 in
     record {
       first = k;
       later = [];
@@ -141,7 +143,8 @@ set_is_spelled lexemes s rest read =
   where
     empty : (left last : List Lexeme) → lexemes ≡ left_brace ∷ left → the_symbol (codes "}") left ≡ Some (tt, last) → ◌≡◌ {A = Option (ℕ × List Lexeme)} (Some (0, last)) (Some (s, rest)) → IsSet lexemes s rest
     empty left last here closed is =
-        let value : s ≡ 0 = cc in
-        let end : last ≡ rest = cc in
+        let parts = some_pair_parts 0 s last rest is in
+        let value = sym parts.0 in
+        let end = parts.1 in
         of_members lexemes s [] rest tt value
         (here ∙ ap (λ (l : List Lexeme). left_brace ∷ l) ((the_symbol_reads (codes "}") left last).0 closed) ∙ ap (λ (l : List Lexeme). left_brace ∷ right_brace ∷ l) end)
