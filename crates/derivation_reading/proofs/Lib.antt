@@ -3,3 +3,8 @@ mod MemberLaws
 mod SetLaws
 mod SeriesLaws
 mod StatementLaws
+mod Understood
+mod PlaceLaws
+mod SoFar
+mod Piles
+mod TooFar

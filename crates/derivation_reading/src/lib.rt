@@ -1,10 +1,14 @@
 //! Derivations: what their texts say, and which fault is the first.
 #![tactic(auto)]
 
+mod build;
 mod chains;
 pub mod fault;
+mod heights;
 mod nodes;
 mod numbers;
+mod places;
+mod preorder;
 mod sets;
 mod statement;
 mod unread;
