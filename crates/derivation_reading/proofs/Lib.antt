@@ -8,3 +8,5 @@ mod PlaceLaws
 mod SoFar
 mod Piles
 mod TooFar
+mod Forests
+mod FaultLaws

@@ -10,7 +10,7 @@ use Rattle.derivation_reading.specs.declared.places.Awaited.TheVariants as next
 use Rattle.derivation_reading.specs.Places.{inputs, places_behind, MayStand}
 use Rattle.derivation_reading.specs.PlaceTests.{awaited_behind, awaited, admits, takes}
 
-few_of : (f : Flavour) → inputs_of f ≤ 2
+pub few_of : (f : Flavour) → inputs_of f ≤ 2
 few_of flavour.AccessHeap = omega arith
 few_of flavour.AccessIndex = omega arith
 few_of flavour.Get = omega arith

@@ -38,7 +38,7 @@ same_nodes (x ∷ a) (y ∷ b) p q e =
 pub one_list_of_nodes : (statements : List MaybeEnded) (a b : List Step) → SayNodes statements a → SayNodes statements b → a ≡ b
 one_list_of_nodes statements a b p q = same_nodes a b p.stand q.stand (sym p.are ∙ q.are)
 
-every-more : (nodes : List Step) (node : Step) → Every IsStep nodes → IsStep node → Every IsStep (nodes ++ node ∷ [])
+pub every-more : (nodes : List Step) (node : Step) → Every IsStep nodes → IsStep node → Every IsStep (nodes ++ node ∷ [])
 every-more [] node every stands = (stands, tt)
 every-more (x ∷ nodes) node every stands = (every.0, every-more nodes node every.1 stands)
 
@@ -49,7 +49,7 @@ follow-more before (x ∷ nodes) node follow place order =
     let e = sym (append_assoc before (x ∷ []) nodes) in
     (follow.0, follow.1, follow-more (before ++ x ∷ []) nodes node follow.2 (subst (λ (l : List Step). 0 < places_behind 1 l) e place) (subst (λ (l : List Step). MayStand l node) e order))
 
-statements-more : (nodes : List Step) (node : Step) → statements_for (nodes ++ node ∷ []) ≡ statements_for nodes ++ ended (statement_of node) ∷ []
+pub statements-more : (nodes : List Step) (node : Step) → statements_for (nodes ++ node ∷ []) ≡ statements_for nodes ++ ended (statement_of node) ∷ []
 statements-more nodes node = ap (map ended) (map-append statement_of nodes (node ∷ [])) ∙ map-append ended (map statement_of nodes) (statement_of node ∷ [])
 
 -- ---- what is known between two statements

@@ -1,8 +1,8 @@
 -- The ancestors of nodes in preorder, and the first node that has too many.
-use Rattle.std.proofs.Common.{◌≡◌, ◌⊎◌, ℕ, zero, suc, ◌+◌, ◌<◌, ◌≤◌, Bool, true, false, nat_lt, if◌then◌else◌, List, [], ◌∷◌, ◌++◌, length, map, drop, replicate, reverse, Option, Some, None, refl, sym, ap, ◌∙◌, subst, arith, add-one, append_assoc, append-nil}
+use Rattle.std.proofs.Common.{◌≡◌, ◌⊎◌, ℕ, zero, suc, ◌+◌, ◌<◌, ◌≤◌, Bool, true, false, nat_lt, if◌then◌else◌, List, [], ◌∷◌, ◌++◌, length, map, drop, get_or, replicate, reverse, Option, Some, None, refl, sym, ap, ◌∙◌, subst, arith, add-one, append_assoc, append-nil}
 use Rattle.std.specs.Prelude.{MatchOption}
 use Rattle.std.proofs.lemmas.Bool.{ltb-true, ltb-false, lt-ltb, le-ltb}
-use Rattle.std.proofs.lemmas.List.{reverse-append}
+use Rattle.std.proofs.lemmas.List.{reverse-append, drop_more}
 use Rattle.star_model.specs.declared.rules.Flavour.{Flavour}
 use Rattle.star_model.specs.declared.derivations.Deriv.{Deriv}
 use Rattle.star_model.specs.declared.derivations.Deriv.TheVariants as made
@@ -31,7 +31,7 @@ tree_places (d.Binary f a b) n places later has =
     ap (λ (l : List Step). ancestors_of (n ∷ places) (Operator f ∷ l)) (append_assoc (steps a) (steps b) later)
     ∙ operator_places f 2 n places (steps a ++ (steps b ++ later)) has.0
     ∙ ap (λ (l : List ℕ). n ∷ l)
-    (tree_places a (n + 1) (n + 1 ∷ places) (steps b ++ later) has.1 ∙ ap (λ (l : List ℕ). ancestors (n + 1) a ++ l) (tree_places b (n + 1) places later has.2)
+    (tree_places a (n + 1) ((n + 1) ∷ places) (steps b ++ later) has.1 ∙ ap (λ (l : List ℕ). ancestors (n + 1) a ++ l) (tree_places b (n + 1) places later has.2)
     ∙ sym (append_assoc (ancestors (n + 1) a) (ancestors (n + 1) b) (ancestors_of places later)))
 
 no_more : (places : List ℕ) → ancestors_of places [] ≡ []
@@ -122,3 +122,6 @@ searched-near number n places before after node later found was near opened is =
 
 pub opened-more : (k n : ℕ) (places now after : List ℕ) → reverse now ≡ replicate k n ++ reverse places → after ≡ now ++ n ∷ [] → reverse after ≡ replicate (k + 1) n ++ reverse places
 opened-more k n places now after opened is = ap reverse is ∙ reverse-push now n ∙ ap (λ (l : List ℕ). n ∷ l) opened ∙ ap (λ (i : ℕ). replicate i n ++ reverse places) (sym (add-one k))
+
+pub next_item : {A B : Type 0} (f : A → B) (xs : List A) (i : ℕ) (x : A) → i < length xs → x ≡ get_or xs i x → map f (drop i xs) ≡ f x ∷ map f (drop (i + 1) xs)
+next_item {A} f xs i x below is = ap (map f) (drop_more xs i x below) ∙ ap (λ (y : A). f y ∷ map f (drop (i + 1) xs)) (sym is)

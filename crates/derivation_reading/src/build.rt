@@ -30,22 +30,23 @@ fn operator(alloc: Global, flavour: Flavour, pile: &mut Items<Deriv>) -> Result<
     requires { inputs (step.Operator flavour) ≤ length pile.old }
     ensures { IfOk result (λ tree. Grows (step.Operator flavour) pile.old tree pile.new) }
 {
-    match inputs_of(flavour) {
-        0 => Ok(Deriv::Leaf { flavour }),
-        1 => {
-            let input = Boxed::new(alloc, taken(pile))?;
-            Ok(Deriv::Unary { flavour, input })
-        }
-        _ => {
-            let left = Boxed::new(alloc, taken(pile))?;
-            let right = Boxed::new(alloc, taken(pile))?;
-            Ok(Deriv::Binary {
-                flavour,
-                left,
-                right,
-            })
-        }
+    let count = inputs_of(flavour);
+    if count == 0 {
+        return Ok(Deriv::Leaf { flavour });
     }
+    let first = Boxed::new(alloc, taken(pile))?;
+    if count == 1 {
+        return Ok(Deriv::Unary {
+            flavour,
+            input: first,
+        });
+    }
+    let second = Boxed::new(alloc, taken(pile))?;
+    Ok(Deriv::Binary {
+        flavour,
+        left: first,
+        right: second,
+    })
 }
 
 // A node over the trees that were put down last, as many as it has inputs.

@@ -9,8 +9,10 @@ mod nodes;
 mod numbers;
 mod places;
 mod preorder;
+mod read;
 mod sets;
 mod statement;
 mod unread;
 
 pub use fault::DerivFault;
+pub use read::read_derivation;
