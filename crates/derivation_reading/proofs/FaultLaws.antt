@@ -1,5 +1,6 @@
 -- In which order the faults of a text are told apart.
 use Rattle.std.proofs.Common.{false, ◌≡◌, ◌⊎◌, inl, inr, ℕ, ◌+◌, ◌<◌, ◌≤◌, List, [], ◌∷◌, ◌++◌, map, length, Option, Some, None, Ok, Err, refl, sym, ap, ◌∙◌, subst, arith}
+use Rattle.std.specs.Prelude.{MatchOption}
 use Rattle.sb_text.specs.Refusal.{fault_of, first_fault, IsFault}
 use Rattle.sb_text.specs.Depth.{first_too_deep}
 use Rattle.sb_text.specs.Statements.{parts}
@@ -188,3 +189,13 @@ module _ (text : List ℕ) where
 
   pub one_fault : (f g : DerivFault) → IsFirstFault text f → IsFirstFault text g → f ≡ g
   one_fault f g p q = same_kind f g (omega (arith, p.first g q.has, q.first f p.has)) p.has q.has
+
+-- ---- what a search for the first has found
+
+pub if_some : {A : Type 0} (found : Option A) (x : A) (P : Type 0) (Q : A → Type 0) → found ≡ Some x → MatchOption found P Q → Q x
+if_some None x P Q is has = absurd cc
+if_some {A} (Some y) x P Q is has = let same : y ≡ x = cc in subst Q same has
+
+pub if_none : {A : Type 0} (found : Option A) (P : Type 0) (Q : A → Type 0) → ((x : A) → found ≡ Some x → ⊥) → MatchOption found P Q → P
+if_none None P Q not_some has = has
+if_none (Some y) P Q not_some has = absurd (not_some y refl)

@@ -10,3 +10,7 @@ mod Piles
 mod TooFar
 mod Forests
 mod FaultLaws
+mod Shallow
+mod ReadBack
+mod Verdicts
+pub mod Laws

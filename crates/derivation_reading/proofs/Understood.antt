@@ -12,7 +12,7 @@ use Rattle.derivation_reading.specs.StatementReading.{node_at}
 use Rattle.derivation_reading.proofs.StatementLaws.{node_is_read, node_is_spelled}
 
 -- what a statement says is read
-says_read : (statement : MaybeEnded) (node : Step) → SaysNode statement node → node_at statement.0 ≡ Some (node, [])
+pub says_read : (statement : MaybeEnded) (node : Step) → SaysNode statement node → node_at statement.0 ≡ Some (node, [])
 says_read statement node says = ap node_at (ap (λ (s : MaybeEnded). s.0) says.is) ∙ node_is_read node says.stands
 
 pub one_node : (statement : MaybeEnded) (a b : Step) → SaysNode statement a → SaysNode statement b → a ≡ b

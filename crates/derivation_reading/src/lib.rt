@@ -12,6 +12,7 @@ mod preorder;
 mod read;
 mod sets;
 mod statement;
+pub mod theorems;
 mod unread;
 
 pub use fault::DerivFault;
