@@ -1,0 +1,4 @@
+-- The laws that other crates may cite. Each is the clause of a function of the module `theorems`.
+pub use Rattle.derivation_reading.proofs.FaultLaws.{one_fault}
+pub use Rattle.derivation_reading.proofs.Verdicts.{verdict}
+pub use Rattle.derivation_reading.proofs.ReadBack.{one_accepted, accepted_spells, few_nodes, read_as, printed_read, plan_read}

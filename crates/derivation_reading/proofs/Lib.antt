@@ -1,0 +1,16 @@
+mod Loops
+mod MemberLaws
+mod SetLaws
+mod SeriesLaws
+mod StatementLaws
+mod Understood
+mod PlaceLaws
+mod SoFar
+mod Piles
+mod TooFar
+mod Forests
+mod FaultLaws
+mod Shallow
+mod ReadBack
+mod Verdicts
+pub mod Laws

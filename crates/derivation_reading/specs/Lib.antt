@@ -1,0 +1,11 @@
+pub mod Nodes
+pub mod Places
+pub mod Ancestors
+pub mod Faults
+pub mod PlaceTests
+pub mod Preorder
+pub mod Piles
+pub mod OpenPlaces
+pub mod StatementReading
+pub mod NodeReading
+pub mod TextFaults
