@@ -1,0 +1,5 @@
+mod Places
+mod Small
+mod Nodes
+mod Judgements
+mod Members
