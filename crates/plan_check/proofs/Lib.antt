@@ -3,3 +3,4 @@ mod Small
 mod Nodes
 mod Judgements
 mod Members
+mod Cases

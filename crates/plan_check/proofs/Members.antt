@@ -1,7 +1,7 @@
 -- The member of a range that has a number, looked for among the members with their numbers.
-use Rattle.std.proofs.Common.{◌≡◌, ℕ, ◌+◌, ◌-◌, Bool, true, false, not, ◌&&◌, ◌||◌, nat_eq, List, [], ◌∷◌, ◌++◌, Option, Some, None, refl, ap, sym, ◌∙◌, subst, arith, map, if◌then◌else◌}
+use Rattle.std.proofs.Common.{◌≡◌, ℕ, ◌+◌, ◌-◌, Bool, true, false, not, ◌&&◌, ◌||◌, nat_eq, List, [], ◌∷◌, ◌++◌, Option, Some, None, refl, ap, sym, ◌∙◌, arith, map, if◌then◌else◌, false-eqb}
 use Rattle.std.specs.List.{list_any}
-use Rattle.std.proofs.lemmas.Bool.{false≢true, or_left, or_right, or_from, or_parts, and_from, and_right, eqb-true, eq-eqb, ne_eqb, false-eqb}
+use Rattle.std.proofs.lemmas.Bool.{false≢true, or_left, or_right, or_from, or_parts, and_from, and_right, eqb-true, eq-eqb, ne_eqb}
 use Rattle.star_model.specs.Meaning.{numbers_of, member_at}
 use Rattle.star_model.specs.declared.query.Query.{Query}
 use Rattle.star_model.specs.declared.rules.Range.{Range}
@@ -20,8 +20,9 @@ among : {A : Type 0} (at : ℕ → A) (k : ℕ) (v : A) (ns : List ℕ) (ys more
 among at k v [] [] more is = cc
 among at k v [] (y ∷ ys) more is = cc
 among {A} at k v (n ∷ ns) [] more is =
-    let same : n ≡ k = cc in
-    let member : at n ≡ v = cc in
+    let pair : (n, at n) ≡ (k, v) = cc in
+    let same : n ≡ k = ap (λ (p : ℕ × A). p.0) pair in
+    let member : at n ≡ v = ap (λ (p : ℕ × A). p.1) pair in
     (or_left (nat_eq k n) (list_any (nat_eq k) ns) (eq-eqb k n (sym same)), ap at (sym same) ∙ member)
 among at k v (n ∷ ns) (y ∷ ys) more is =
     let rest : pairs at ns ≡ ys ++ (k, v) ∷ more = cc in

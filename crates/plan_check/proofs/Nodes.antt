@@ -1,7 +1,8 @@
 -- Each tree has a node.
 use Rattle.std.proofs.Common.{ℕ, ◌≤◌, ◌+◌, arith}
 use Rattle.star_model.specs.Judging.{node_count}
-use Rattle.star_model.specs.DerivCases.{Glue, Goal, Reference, Leaf, Unary, Binary}
+use Rattle.star_model.specs.DerivCases.{Glue, Goal, Reference, Unary, Binary}
+use Rattle.star_model.specs.declared.derivations.Deriv.TheVariants.{Leaf}
 use Rattle.star_model.specs.declared.derivations.Deriv.{Deriv}
 
 pub some_node : (d : Deriv) → 1 ≤ node_count d

@@ -13,6 +13,7 @@ use Rattle.star_model.specs.Vectors.{same_numbers}
 use Rattle.star_model.specs.WellFormed.{WellFormedQuery}
 use Rattle.star_model.specs.Expected.{Expected, ForQuery, ForGoal, Call, Expression, goal_of, glue_of, query_goal, may_split, root_call, goal_body, body_of, as_call, values_of, reference_body, operator_of, unary_of, binary_of, as_unary, as_binary}
 use Rattle.star_model.specs.PlanExprCases as expr
+use Rattle.star_model.specs.declared.rules.PlanExpr.TheVariants as plain
 use Rattle.star_model.specs.declared.plans.Goal.{Goal}
 use Rattle.star_model.specs.declared.plans.Op.{Op}
 use Rattle.star_model.specs.declared.plans.Require.{Require}
@@ -41,11 +42,11 @@ body_is_place rules q star letters n picks call y accepted place is = go (same_n
 
 pub call_is_place : (rules : RuleFile) (q : Query) (e : PlanExpr) (b : List RuleValue) (star : List ℕ) (values : List RuleValue) → IsAccepted rules → IsPlace rules (Expression e b)
     → as_call q (Expression e b) ≡ Some (star, values) → IsPlace rules (Call star values)
-call_is_place rules q (expr.Reference called args) b star values accepted place is =
+call_is_place rules q (plain.Reference called args) b star values accepted place is =
     let P : Option (List ℕ × List RuleValue) → Type 0 = λ o. elim o [ Some c ↦ IsPlace rules (Call c.0 c.1) | None ↦ ⊥ ] in
-    subst P is (below rules q (Expression (expr.Reference called args) b) (Call called (values_of q b args)) accepted place (Below.by_reference called args b))
-call_is_place rules q (expr.Glue s p) b star values accepted place is = cc
-call_is_place rules q (expr.Leaf f args) b star values accepted place is = cc
+    subst P is (below rules q (Expression (plain.Reference called args) b) (Call called (values_of q b args)) accepted place (Below.by_reference called args b))
+call_is_place rules q (plain.Glue s p) b star values accepted place is = cc
+call_is_place rules q (plain.Leaf f args) b star values accepted place is = cc
 call_is_place rules q (expr.Unary f args e) b star values accepted place is = cc
 call_is_place rules q (expr.Binary f args d e) b star values accepted place is = cc
 
@@ -66,15 +67,15 @@ goal_tables _ = 0
 
 pub goal_is_place : (rules : RuleFile) (q : Query) (e : PlanExpr) (b : List RuleValue) (r : Require) (t j : ℕ) → IsAccepted rules → IsPlace rules (Expression e b)
     → glue_of q (Expression e b) ≡ Some (r, ForGoal t j) → IsPlace rules (ForGoal t j)
-goal_is_place rules q (expr.Glue stream preds) b r t j accepted place is =
+goal_is_place rules q (plain.Glue stream preds) b r t j accepted place is =
     let s = (as_stream (meaning q b stream)).tables in
     let same : s ≡ t = ap goal_tables is in
     let read : may_read place.0 t ≡ true = ap (may_read place.0) (sym same) ∙ glue_reads_within rules accepted q place.0 stream preds b place.1 in
     let within = (and_parts (nat_lt 0 t && nat_lt t (2 ^ 32) && is_within t place.0) _ read).0 in
     let bounds = and_parts (nat_lt 0 t) (nat_lt t (2 ^ 32)) (and_parts (nat_lt 0 t && nat_lt t (2 ^ 32)) (is_within t place.0) within).0 in
     (t, (refl, ltb-true 0 t bounds.0, ltb-true t (2 ^ 32) bounds.1))
-goal_is_place rules q (expr.Reference called args) b r t j accepted place is = cc
-goal_is_place rules q (expr.Leaf f args) b r t j accepted place is = cc
+goal_is_place rules q (plain.Reference called args) b r t j accepted place is = cc
+goal_is_place rules q (plain.Leaf f args) b r t j accepted place is = cc
 goal_is_place rules q (expr.Unary f args e) b r t j accepted place is = cc
 goal_is_place rules q (expr.Binary f args d e) b r t j accepted place is = cc
 
@@ -93,9 +94,9 @@ input_is_place rules q f (expr.Unary g args input) b o y accepted place is = go 
         let P : Option (Op × Expected) → Type 0 = λ o. elim o [ Some p ↦ IsPlace rules p.1 | None ↦ ⊥ ] in
         subst P is (below rules q (Expression (expr.Unary g args input) b) (Expression input b) accepted place (Below.by_input g args input b))
     go false is = cc
-input_is_place rules q f (expr.Reference called args) b o y accepted place is = cc
-input_is_place rules q f (expr.Glue s p) b o y accepted place is = cc
-input_is_place rules q f (expr.Leaf g args) b o y accepted place is = cc
+input_is_place rules q f (plain.Reference called args) b o y accepted place is = cc
+input_is_place rules q f (plain.Glue s p) b o y accepted place is = cc
+input_is_place rules q f (plain.Leaf g args) b o y accepted place is = cc
 input_is_place rules q f (expr.Binary g args d e) b o y accepted place is = cc
 
 pub inputs_are_places : (rules : RuleFile) (q : Query) (f : Flavour) (e : PlanExpr) (b : List RuleValue) (o : Op) (y z : Expected) → IsAccepted rules → IsPlace rules (Expression e b)
@@ -113,7 +114,7 @@ inputs_are_places rules q f (expr.Binary g args left right) b o y z accepted pla
           below rules q (Expression (expr.Binary g args left right) b) (Expression right b) accepted place (Below.by_right g args left right b),
         )
     go false is = cc
-inputs_are_places rules q f (expr.Reference called args) b o y z accepted place is = cc
-inputs_are_places rules q f (expr.Glue s p) b o y z accepted place is = cc
-inputs_are_places rules q f (expr.Leaf g args) b o y z accepted place is = cc
+inputs_are_places rules q f (plain.Reference called args) b o y z accepted place is = cc
+inputs_are_places rules q f (plain.Glue s p) b o y z accepted place is = cc
+inputs_are_places rules q f (plain.Leaf g args) b o y z accepted place is = cc
 inputs_are_places rules q f (expr.Unary g args e) b o y z accepted place is = cc

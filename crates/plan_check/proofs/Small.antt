@@ -25,11 +25,11 @@ use Rattle.plan_check.specs.Places.{IsPlace}
 -- what holds of every item holds of one that is found
 each_found : {A : Type 0} (P : A → Type 0) (test : A → Bool) (xs : List A) (x : A) → Every P xs → find test xs ≡ Some x → P x
 each_found P test [] x all found = cc
-each_found {A} P test (y ∷ ys) x all found = go (test y) found
+each_found {A} P test (y ∷ ys) x all found = go (test y) (λ later. each_found P test ys x all.1 later) found
   where
-    go : (b : Bool) → (if b then Some y else find test ys) ≡ Some x → P x
-    go true found = let same : y ≡ x = cc in subst P same all.0
-    go false found = each_found P test ys x all.1 found
+    go : (b : Bool) → (find test ys ≡ Some x → P x) → (if b then Some y else find test ys) ≡ Some x → P x
+    go true later found = let same : y ≡ x = cc in subst P same all.0
+    go false later found = later found
 
 few_parameters : (rules : RuleFile) (star : List ℕ) (d : StarDef) → WellFormedRules rules → star_named rules star ≡ Some d → length d.params ≤ 8
 few_parameters rules star d formed named = (each_found KeepsStarLimits (λ (s : StarDef). same_numbers s.name star) rules.stars d formed.limits named).parameters
