@@ -61,7 +61,7 @@ root_is_place rules q g split s j y accepted place is = go (nat_eq g.tables s &&
         (below rules q (ForGoal s j) (root_call s j split) accepted place (Below.by_split s j split (and_parts (nat_eq g.tables s && nat_eq g.pushed j) (may_split s split) fits).1))
     go false fits is = cc
 
-goal_tables : Option (Require × Expected) → ℕ
+abbrev goal_tables : Option (Require × Expected) → ℕ
 goal_tables (Some (r, ForGoal t j)) = t
 goal_tables _ = 0
 
@@ -89,7 +89,7 @@ pub input_is_place : (rules : RuleFile) (q : Query) (f : Flavour) (e : PlanExpr)
 unfolding unary_of
 input_is_place rules q f (expr.Unary g args input) b o y accepted place is = go (same_flavour f g) is
   where
-    go : (t : Bool) → option_and_then (λ (p : List ValueExpr × PlanExpr). Some (operator_of f (values_of q b p.0), Expression p.1 b)) (if t then Some (args, input) else None) ≡ Some (o, y) → IsPlace rules y
+    go : (t : Bool) → option_and_then {U = Op × Expected} (λ (p : List ValueExpr × PlanExpr). Some (operator_of f (values_of q b p.0), Expression p.1 b)) (if t then Some (args, input) else None) ≡ Some (o, y) → IsPlace rules y
     go true is =
         let P : Option (Op × Expected) → Type 0 = λ o. elim o [ Some p ↦ IsPlace rules p.1 | None ↦ ⊥ ] in
         subst P is (below rules q (Expression (expr.Unary g args input) b) (Expression input b) accepted place (Below.by_input g args input b))
@@ -104,7 +104,7 @@ pub inputs_are_places : (rules : RuleFile) (q : Query) (f : Flavour) (e : PlanEx
 unfolding binary_of
 inputs_are_places rules q f (expr.Binary g args left right) b o y z accepted place is = go (same_flavour f g) is
   where
-    go : (t : Bool) → option_and_then (λ (p : List ValueExpr × PlanExpr × PlanExpr). Some (operator_of f (values_of q b p.0), Expression p.1 b, Expression p.2 b)) (if t then Some (args, left, right) else None) ≡ Some (o, y, z)
+    go : (t : Bool) → option_and_then {U = Op × Expected × Expected} (λ (p : List ValueExpr × PlanExpr × PlanExpr). Some (operator_of f (values_of q b p.0), Expression p.1 b, Expression p.2 b)) (if t then Some (args, left, right) else None) ≡ Some (o, y, z)
         → IsPlace rules y × IsPlace rules z
     go true is =
         let P : Option (Op × Expected × Expected) → Type 0 = λ o. elim o [ Some p ↦ IsPlace rules p.1 × IsPlace rules p.2 | None ↦ ⊥ ] in
