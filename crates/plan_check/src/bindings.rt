@@ -1,7 +1,6 @@
 // Bindings: the values of a reference's arguments, and those of for-all names. None of it takes memory.
 
-ghost use Rattle.std.specs.Prelude.{◌≡◌, ◌≤◌, ◌+◌, map, length};
-ghost use Rattle.std.specs.List.{list_any};
+ghost use Rattle.std.specs.Prelude.{◌≡◌, ◌<◌, ◌≤◌, ◌+◌, ◌++◌, ◌∷◌, [], length};
 ghost use Rattle.star_model.specs.Expected.{values_of, meets, bound};
 ghost use Rattle.star_model.specs.WellFormed.{WellFormedQuery};
 ghost use Rattle.plan_check.specs.Bound.{member_numbered};
@@ -49,22 +48,37 @@ fn member(query: &Query, range: &Range, env: &Env, number: u32) -> Option<RuleVa
     None
 }
 
+// The bindings with one more.
+fn with_value(env: Env, value: RuleValue) -> Env
+    requires { length env < 10 }
+    ensures { result ≡ env ++ value ∷ [] }
+{
+    let mut more = env;
+    let pushed = more.try_push(value);
+    prove!(pushed.is_ok());
+    more
+}
+
 // The bindings with a value for each of these names; none where the numbers are more or fewer, or one is no member's.
 pub fn bind(query: &Query, ranges: &[ForAll], numbers: &[u32], env: Env) -> Option<Env>
     requires query { WellFormedQuery query.now }
     requires room { length env + length numbers.now ≤ 10 }
     ensures { result ≡ bound query.now ranges.now numbers.now env }
 {
-    match (ranges, numbers) {
-        ([], []) => Some(env),
-        ([], [_, ..]) => None,
-        ([_, ..], []) => None,
-        ([each, ranges @ ..], [number, numbers @ ..]) => {
-            let value = member(query, &each.range, &env, *number)?;
-            let mut more = env;
-            let pushed = more.try_push(value);
-            prove!(pushed.is_ok());
-            bind(query, ranges, numbers, more)
+    match ranges {
+        [] => {
+            if numbers.is_empty() {
+                Some(env)
+            } else {
+                None
+            }
         }
+        [each, ranges @ ..] => match numbers {
+            [] => None,
+            [number, numbers @ ..] => {
+                let value = member(query, &each.range, &env, *number)?;
+                bind(query, ranges, numbers, with_value(env, value))
+            }
+        },
     }
 }

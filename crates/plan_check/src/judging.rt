@@ -88,6 +88,7 @@ fn judge_unary(
         (judge basis.now.query.now basis.now.rules.now (made.Unary flavour input.now) (Expression expr.now env.now) node)
         (node + 1 + node_count input.now) }
 {
+    basis.rules.stands();
     let Some((op, part)) = as_unary(flavour, expr, env, basis.query) else {
         return Err(NotDerived { node });
     };
@@ -119,11 +120,12 @@ fn judge_binary(
         (judge basis.now.query.now basis.now.rules.now (made.Binary flavour left.now right.now) (Expression expr.now env.now) node)
         (node + 1 + node_count left.now + node_count right.now) }
 {
+    basis.rules.stands();
     let Some((op, first, second)) = as_binary(flavour, expr, env, basis.query) else {
         return Err(NotDerived { node });
     };
     match judge_expression(basis, left, first, env, node + 1) {
-        Err(invalid) => Err(invalid),
+        Err(earlier) => Err(earlier),
         Ok(before) => match judge_expression(basis, right, second, env, before.last + 1) {
             Err(invalid) => Err(invalid),
             Ok(after) => {
@@ -154,6 +156,7 @@ fn judge_reference(
         (Expression expr.now env.now) node)
         (node + 1 + node_count body.now) }
 {
+    basis.rules.stands();
     match called(basis, expr, env) {
         None => Err(NotDerived { node }),
         Some((star, call)) => judge_body(basis, referred, body, star.as_slice(), call, node),
@@ -341,6 +344,7 @@ fn query_goal(query: &Query) -> Goal
 ///
 /// Each node is judged once. It takes no memory. The stack that it takes doesn't grow with the tree but with the rules: below a node that
 /// doesn't fit nothing is looked at.
+#[tactic(auto, using(star_model::specs::JudgingEquations::judge_cases))]
 pub fn check_derivation(
     rules: &CheckedRules,
     query: &Query,
