@@ -1,7 +1,6 @@
 use Rattle.std.proofs.Common.{arith, ap, sym, ◌∙◌, subst}
-use Rattle.star_model.specs.Expected.{Expected, ForQuery, query_goal}
-use Rattle.star_model.specs.Judging.{judge, node_count}
-use Rattle.star_model.specs.JudgingEquations.{node_count-Glue, judge-Goal}
+use Rattle.star_model.specs.Judging.{node_count}
+use Rattle.star_model.specs.JudgingEquations.{node_count-Glue}
 use Rattle.plan_check.specs.Places.{IsPlace}
 use Rattle.plan_check.proofs.Places.{query_is_place}
 use Rattle.plan_check.proofs.judging.check_derivation.Goals as goal
@@ -16,7 +15,3 @@ judge_chain-requires-clause-room c =
     let same = ap node_count c.get.ensures in
     let size = c.requires.size in
     omega (arith, count, same, size)
-
-pub returns-in-Goal-clause-invalid : goal.returns-in-Goal-clause-invalid
-returns-in-Goal-clause-invalid c =
-    ap (λ d. judge c.args.query.now c.args.rules.now d ForQuery 1) c.in-Goal.is ∙ judge-Goal c.args.query.now c.args.rules.now c.in-Goal.goal c.in-Goal.split c.in-Goal.body ForQuery 1
