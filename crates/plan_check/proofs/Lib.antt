@@ -1,0 +1,6 @@
+mod Places
+mod Small
+mod Nodes
+mod Judgements
+mod Members
+mod Cases
