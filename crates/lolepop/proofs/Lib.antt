@@ -2,6 +2,7 @@ mod ArityLaws
 mod OwnColumns
 mod UsedColumns
 mod NoInput
+mod NoPredicates
 mod DerivedLaws
 mod FitLaws
 mod FlavourLaws

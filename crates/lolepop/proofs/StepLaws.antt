@@ -1,6 +1,6 @@
 -- The vector of an applicable operator.
-use Rattle.std.proofs.Common.{◌≡◌, true, ◌&&◌, List, ap, sym, ◌∙◌}
-use Rattle.std.specs.Prelude.{Option, None, if◌then◌else◌}
+use Rattle.std.proofs.Common.{◌≡◌, true, ◌&&◌, List, sym, ◌∙◌}
+use Rattle.std.specs.Prelude.{None, if◌then◌else◌}
 use Rattle.star_model.specs.Operators.{step, may_apply, each_touches, unpriced, vars_of, price}
 use Rattle.star_model.specs.declared.query.Query.{Query}
 use Rattle.star_model.specs.declared.costs.CostEntry.{CostEntry}

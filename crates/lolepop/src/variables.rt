@@ -2,14 +2,14 @@
 
 ghost use Rattle.std.specs.Prelude.{◌≡◌, option_copied, slice_get};
 ghost use Rattle.std.specs.Option.{option_map_or};
-ghost use Rattle.star_model.specs.Operators.{table_under, rows_under, pages_under, rows_read, pages_read, cpu_at, net_at, works_at, net_of, vars_of, width_of};
+ghost use Rattle.star_model.specs.Operators.{table_under, rows_under, pages_under, rows_read, pages_read, cpu_at, net_at, works_at, net_of, cols_after, input_at, vars_of, width_of};
 ghost use Rattle.lolepop.specs.Inputs.{vectors, vector_in};
 
 use crate::arguments::applied;
 use crate::inputs::Inputs;
 use query_graph::{only_member, table_of, width};
 use star_model::catalogue::TableDef;
-use star_model::columns::Site;
+use star_model::columns::{ColSet, Site};
 use star_model::formula::Vars;
 use star_model::num::{Num, cap_add};
 use star_model::plans::{Op, Props};
@@ -171,8 +171,28 @@ fn numbers_of(query: &Query, input: Option<&Props>) -> InputNumbers
     }
 }
 
+// The width of a row of the result, which is that of the input's where the operator keeps its columns.
+fn width_after(query: &Query, op: &Op, inputs: &Inputs<'_>, first: Num, cols: &ColSet) -> Num
+    requires cols { cols.now ≡ cols_after query.now op.now (vectors inputs.now) }
+    requires first { first ≡ width_of query.now (input_at 0 (vectors inputs.now)).cols }
+    ensures { result ≡ width_of query.now cols.now }
+{
+    match (op, inputs) {
+        (
+            Op::Filter { .. }
+            | Op::Sort { .. }
+            | Op::Store { .. }
+            | Op::Ship { .. }
+            | Op::Probe { .. },
+            Inputs::One(_),
+        ) => first,
+        _ => width(query, cols),
+    }
+}
+
 /// The values of the variables, where the operator over these inputs makes a result of this vector.
 pub fn vars_of(query: &Query, op: &Op, inputs: &Inputs<'_>, made: &Props) -> Vars
+    requires { made.now.cols ≡ cols_after query.now op.now (vectors inputs.now) }
     ensures { result ≡ vars_of query.now op.now (vectors inputs.now) made.now }
 {
     let first = numbers_of(query, inputs.first());
@@ -187,7 +207,7 @@ pub fn vars_of(query: &Query, op: &Op, inputs: &Inputs<'_>, made: &Props) -> Var
         card2: second.card,
         width2: second.width,
         card: made.card,
-        width: width(query, &made.cols),
+        width: width_after(query, op, inputs, first.width, &made.cols),
         rows: rows_read(query, op),
         pages: pages_read(query, op),
         preds: Num::cut(u64::from(applied(op).len())),
