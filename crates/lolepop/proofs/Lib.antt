@@ -3,6 +3,8 @@ mod OwnColumns
 mod UsedColumns
 mod NoInput
 mod NoPredicates
+mod WidthCases
+mod WidthLaws
 mod DerivedLaws
 mod FitLaws
 mod FlavourLaws
