@@ -2,6 +2,9 @@ mod ArityLaws
 mod OwnColumns
 mod UsedColumns
 mod NoInput
+mod NoPredicates
+mod WidthCases
+mod WidthLaws
 mod DerivedLaws
 mod FitLaws
 mod FlavourLaws

@@ -9,3 +9,4 @@ pub mod Applying
 pub mod Traces
 pub mod Derived
 pub mod DerivedCode
+pub mod Widths

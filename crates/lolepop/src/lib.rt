@@ -19,6 +19,7 @@ mod steps;
 pub mod theorems;
 mod trace;
 mod variables;
+mod width_names;
 
 pub use applying::apply;
 pub use best::Best;

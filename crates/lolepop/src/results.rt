@@ -55,12 +55,16 @@ fn sorted_by(query: &Query, op: &Op, inputs: &Inputs<'_>) -> ColList
     }
 }
 
-// Their form under the predicates of the result.
+// Their form under the predicates of the result. That of no columns is none.
+#[tactic(auto, unfolding(star_model::specs::Canon::canon))]
 fn order_after(query: &Query, op: &Op, inputs: &Inputs<'_>) -> ColList
     requires { WellFormedQuery query.now }
     ensures { result ≡ order_after query.now op.now (vectors inputs.now) }
 {
     let columns = sorted_by(query, op, inputs);
+    if columns.len() == 0 {
+        return columns;
+    }
     canon(
         query,
         tables_after(op, inputs),

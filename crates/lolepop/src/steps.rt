@@ -9,7 +9,6 @@ use crate::applicability::{each_touches, may_apply};
 use crate::inputs::Inputs;
 use crate::pricing::price;
 use crate::results::unpriced;
-use crate::variables::vars_of;
 use star_model::costs::Costs;
 use star_model::plans::{Op, Props};
 use star_model::query::Query;
@@ -22,7 +21,7 @@ pub fn step_over(query: &Query, costs: &Costs, op: &Op, inputs: &Inputs<'_>) -> 
 {
     if may_apply(query, op, inputs) && each_touches(query, op, inputs) {
         let made = unpriced(query, op, inputs);
-        price(costs, op, &vars_of(query, op, inputs, &made), made)
+        price(query, costs, op, inputs, made)
     } else {
         None
     }

@@ -2,14 +2,15 @@
 
 ghost use Rattle.std.specs.Prelude.{◌≡◌, option_copied, slice_get};
 ghost use Rattle.std.specs.Option.{option_map_or};
-ghost use Rattle.star_model.specs.Operators.{table_under, rows_under, pages_under, rows_read, pages_read, cpu_at, net_at, works_at, net_of, vars_of, width_of};
+ghost use Rattle.star_model.specs.Operators.{table_under, rows_under, pages_under, rows_read, pages_read, cpu_at, net_at, works_at, net_of, cols_after, input_at, vars_of, width_of};
 ghost use Rattle.lolepop.specs.Inputs.{vectors, vector_in};
+ghost use Rattle.lolepop.specs.Widths.{without_widths};
 
 use crate::arguments::applied;
 use crate::inputs::Inputs;
 use query_graph::{only_member, table_of, width};
 use star_model::catalogue::TableDef;
-use star_model::columns::Site;
+use star_model::columns::{ColSet, Site};
 use star_model::formula::Vars;
 use star_model::num::{Num, cap_add};
 use star_model::plans::{Op, Props};
@@ -145,53 +146,92 @@ struct InputNumbers {
     cost: Num,
     rescan: Num,
     card: Num,
-    width: Num,
 }
 
-#[tactic(auto, using(crate::proofs::NoInput::width_of_nothing))]
-fn numbers_of(query: &Query, input: Option<&Props>) -> InputNumbers
+fn numbers_of(input: Option<&Props>) -> InputNumbers
     ensures cost { result.cost ≡ (vector_in (option_copied input.entry)).cost }
     ensures rescan { result.rescan ≡ (vector_in (option_copied input.entry)).rescan }
     ensures card { result.card ≡ (vector_in (option_copied input.entry)).card }
-    ensures width { result.width ≡ width_of query.now (vector_in (option_copied input.entry)).cols }
 {
     match input {
         None => InputNumbers {
             cost: Num::cut(0),
             rescan: Num::cut(0),
             card: Num::cut(0),
-            width: Num::cut(0),
         },
         Some(v) => InputNumbers {
             cost: v.cost,
             rescan: v.rescan,
             card: v.card,
-            width: width(query, &v.cols),
         },
     }
 }
 
-/// The values of the variables, where the operator over these inputs makes a result of this vector.
-pub fn vars_of(query: &Query, op: &Op, inputs: &Inputs<'_>, made: &Props) -> Vars
-    ensures { result ≡ vars_of query.now op.now (vectors inputs.now) made.now }
+// The width of a row of the input, 0 where there is none.
+#[tactic(auto, using(crate::proofs::NoInput::width_of_nothing))]
+fn width_of(query: &Query, input: Option<&Props>) -> Num
+    ensures { result ≡ width_of query.now (vector_in (option_copied input.entry)).cols }
 {
-    let first = numbers_of(query, inputs.first());
-    let second = numbers_of(query, inputs.second());
+    match input {
+        None => Num::cut(0),
+        Some(v) => width(query, &v.cols),
+    }
+}
+
+// The width of a row of the result, which is that of the input's where the operator keeps its columns.
+fn width_after(query: &Query, op: &Op, inputs: &Inputs<'_>, first: Num, cols: &ColSet) -> Num
+    requires cols { cols.now ≡ cols_after query.now op.now (vectors inputs.now) }
+    requires first { first ≡ width_of query.now (input_at 0 (vectors inputs.now)).cols }
+    ensures { result ≡ width_of query.now cols.now }
+{
+    match (op, inputs) {
+        (
+            Op::Filter { .. }
+            | Op::Sort { .. }
+            | Op::Store { .. }
+            | Op::Ship { .. }
+            | Op::Probe { .. },
+            Inputs::One(_),
+        ) => first,
+        _ => width(query, cols),
+    }
+}
+
+/// The values of the variables, where the operator over these inputs makes a result of this vector, but for the widths, which are 0.
+pub fn vars_but_widths(query: &Query, op: &Op, inputs: &Inputs<'_>, made: &Props) -> Vars
+    ensures { result ≡ without_widths (vars_of query.now op.now (vectors inputs.now) made.now) }
+{
+    let first = numbers_of(inputs.first());
+    let second = numbers_of(inputs.second());
     Vars {
         cost1: first.cost,
         rescan1: first.rescan,
         card1: first.card,
-        width1: first.width,
+        width1: Num::cut(0),
         cost2: second.cost,
         rescan2: second.rescan,
         card2: second.card,
-        width2: second.width,
+        width2: Num::cut(0),
         card: made.card,
-        width: width(query, &made.cols),
+        width: Num::cut(0),
         rows: rows_read(query, op),
         pages: pages_read(query, op),
         preds: Num::cut(u64::from(applied(op).len())),
         cpu: cpu_at(query, works_at(op, inputs, made)),
         net: net_of(query, op, inputs),
+    }
+}
+
+/// The values of the variables, where the operator over these inputs makes a result of this vector.
+pub fn vars_of(query: &Query, op: &Op, inputs: &Inputs<'_>, made: &Props) -> Vars
+    requires { made.now.cols ≡ cols_after query.now op.now (vectors inputs.now) }
+    ensures { result ≡ vars_of query.now op.now (vectors inputs.now) made.now }
+{
+    let width1 = width_of(query, inputs.first());
+    Vars {
+        width1,
+        width2: width_of(query, inputs.second()),
+        width: width_after(query, op, inputs, width1, &made.cols),
+        ..vars_but_widths(query, op, inputs, made)
     }
 }

@@ -6,7 +6,7 @@ use Rattle.star_model.specs.Sets.{has, members, places}
 pub range_step : (n k : ℕ) → k < n → range_with_len k (n - k) ≡ k ∷ range_with_len (k + 1) (n - (k + 1))
 range_step n k h = let e : n - k ≡ suc (n - (k + 1)) = omega (arith, h) in ap (range_with_len k) e
 
-pub members_from : ℕ → ℕ → List ℕ
+unfoldable pub members_from : ℕ → ℕ → List ℕ
 members_from s k = filter (has s) (range_with_len k (32 - k))
 
 pub members_first : (s : ℕ) → members_from s 0 ≡ members s

@@ -10,3 +10,4 @@ pub mod Fitting
 pub mod UsedColumns
 pub mod TextFaults
 pub mod GatheredPredicates
+pub mod Widths

@@ -18,8 +18,13 @@ pub fn card(query: &Query, tables: QuantSet, preds: PredSet) -> Num
     ensures { result ≡ card query.now tables preds }
 {
     let mut rows = Num::cut(1);
+    let mut left = tables.len();
     for quant in 0..32 {
+        if left == 0 {
+            return rows;
+        }
         if tables.has(quant) {
+            left -= 1;
             let read = cap_mul(rows, rows_of(query, quant));
             rows = after_preds(query, tables, preds, quant, read);
         }
@@ -49,12 +54,12 @@ fn ends_at(tables: QuantSet, quant: u8, pred: &Pred) -> bool
     match &pred.right {
         Operand::Column(column) => {
             let right = column.quant.0;
-            tables.has(quant)
-                && (quant == left || quant == right)
+            (quant == left || quant == right)
+                && tables.has(quant)
                 && !is_later(tables, left, quant)
                 && !is_later(tables, right, quant)
         }
-        Operand::Constant(_) => tables.has(quant) && quant == left,
+        Operand::Constant(_) => quant == left && tables.has(quant),
     }
 }
 
