@@ -4,7 +4,7 @@ use Rattle.std.specs.Prelude.{option_and_then}
 use Rattle.std.specs.List.{list_any}
 use Rattle.std.specs.Option.{option_map_or}
 use Rattle.std.proofs.lemmas.List.Folds.{Any-from_list_any}
-use Rattle.star_model.specs.Plans.{chain_vector, op_of}
+use Rattle.star_model.specs.Plans.{op_of}
 use Rattle.star_model.specs.Requirements.{satisfies}
 use Rattle.star_model.specs.Vectors.{is_better}
 use Rattle.star_model.specs.declared.query.Query.{Query}
@@ -16,6 +16,7 @@ use Rattle.dominance_prune.specs.GatheringCases.{Gathers-nothing, Gathers-covere
 use Rattle.lolepop.specs.PlanTrees.{Fits}
 use Rattle.lolepop.specs.Derived.{DerivedPlan, vector_of, is_better_plan, enforced, chained, under_glue}
 use Rattle.lolepop.proofs.Laws.{enforced_gives, unary_fits}
+use Rattle.exchange.proofs.Laws.{chained_vector}
 use Rattle.glue.specs.Gluing.{ChainsTo, is_new, is_wanted}
 
 bind : {A B : Type 0} (f : A → Option B) (o : Option A) (b : B) → option_and_then f o ≡ Some b → (a : A) × (o ≡ Some a) × (f a ≡ Some b)
@@ -40,13 +41,6 @@ second_false false b p h = absurd (cc)
 module _ (q : Query) (costs : List CostEntry) (r : Require) where
   -- ---- chains
 
-  chained_vector : (chain : List GlueOp) (e m : DerivedPlan) → chained q costs r chain e ≡ Some m → chain_vector q costs r chain (vector_of e) ≡ Some (vector_of m)
-  chained_vector [] e m h = ap (λ z. Some (vector_of z)) (some_is e m h)
-  chained_vector (o ∷ os) e m h =
-      let b = bind (chained q costs r os) (enforced q costs r o e) m h in
-      let s = (enforced_gives q costs r o e b.0).0 b.1 in
-      ap (option_and_then (chain_vector q costs r os)) s.0 ∙ chained_vector os b.0 m b.2
-
   pub chained_fits : (chain : List GlueOp) (e m : DerivedPlan) → Fits q costs e.tree → chained q costs r chain e ≡ Some m → Fits q costs m.tree
   chained_fits [] e m f h = subst (λ (z : DerivedPlan). Fits q costs z.tree) (some_is e m h) f
   chained_fits (o ∷ os) e m f h =
@@ -59,7 +53,7 @@ module _ (q : Query) (costs : List CostEntry) (r : Require) where
 
   tested : (chain : List GlueOp) (e m : DerivedPlan) (plans : List DerivedPlan) → chained q costs r chain e ≡ Some m
       → is_wanted q costs r chain (vector_of e) plans ≡ is_new q r plans (vector_of m)
-  tested chain e m plans by = ap (λ found. option_map_or (is_new q r plans) found false) (chained_vector chain e m by)
+  tested chain e m plans by = ap (λ found. option_map_or (is_new q r plans) found false) (chained_vector q costs r chain e m by)
 
   -- ---- offers
 

@@ -1,9 +1,10 @@
 -- What a memo holds, and after a put.
-use Rattle.std.proofs.Common.{◌≡◌, Bool, true, false, ◌&&◌, not, nat_eq, cond, ◌⊎◌, inl, inr, List, [], ◌∷◌, ◌++◌, Some, None, filter, refl, ap, sym, subst, if◌then◌else◌}
-use Rattle.std.specs.List.{find, AllByRecursion, IsDistinct}
+use Rattle.std.proofs.Common.{◌≡◌, Bool, true, false, ◌&&◌, not, nat_eq, cond, ◌⊎◌, inl, inr, List, [], ◌∷◌, ◌++◌, Some, None, filter, refl, ap, sym, ◌∙◌, subst, if◌then◌else◌}
+use Rattle.std.specs.List.{Contains, find, AllByRecursion, IsDistinct}
 use Rattle.std.specs.Option.{option_map}
 use Rattle.std.specs.Map.{lookup, remove_entry}
 use Rattle.std.proofs.lemmas.Map.Keys.{IsDistinct-head, IsDistinct-tail}
+use Rattle.std.proofs.lemmas.Map.Views.{Contains-from_lookup}
 use Rattle.std.proofs.lemmas.Bool.{and_parts, eqb-true, eq-eqb}
 use Rattle.star_model.specs.declared.plans.Goal.{Goal}
 use Rattle.lolepop.specs.Derived.{DerivedPlan}
@@ -25,6 +26,10 @@ plans_at-lookup g (s ∷ memo) = by (same_goal g s.0) (plans_at-lookup g memo)
     by : (b : Bool) → lookup (same_goal g) memo ≡ plans_at memo g → cond b (Some s.1) (lookup (same_goal g) memo) ≡ option_map (λ (s : GoalSet). s.1) (if b then Some s else find (λ (s : GoalSet). same_goal g s.0) memo)
     by true later = refl
     by false later = later
+
+-- a goal that is held stands in the memo with its set
+pub plans_at-listed : (memo : List GoalSet) (g : Goal) (plans : List DerivedPlan) → plans_at memo g ≡ Some plans → Contains memo (g, plans)
+plans_at-listed memo g plans at = Contains-from_lookup same_goal-true g plans memo (plans_at-lookup g memo ∙ at)
 
 -- ---- puts
 
