@@ -3,7 +3,6 @@ pub mod FaultLaws
 pub mod Along
 pub mod Causes
 mod Endings
-mod NodeCounts
 mod PlanTexts
 mod Comments
 pub mod Derived
