@@ -1,7 +1,8 @@
-//! The text of a derivation.
+//! The text of a derivation: how it is printed and, from `derivation_reading`, how it is read.
 #![tactic(auto)]
 
 mod members;
 mod print;
 
+pub use derivation_reading::{DerivFault, read_derivation};
 pub use print::print_derivation;
