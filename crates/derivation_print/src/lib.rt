@@ -1,4 +1,4 @@
-//! The texts of derivations: printing, and reading as `derivation_reading` has it.
+//! The text of a derivation: how it is printed and, from `derivation_reading`, how it is read.
 #![tactic(auto)]
 
 mod members;

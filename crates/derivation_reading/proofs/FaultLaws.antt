@@ -1,5 +1,5 @@
 -- In which order the faults of a text are told apart.
-use Rattle.std.proofs.Common.{false, ◌≡◌, ◌⊎◌, inl, inr, ℕ, ◌+◌, ◌<◌, ◌≤◌, List, [], ◌∷◌, ◌++◌, map, length, Option, Some, None, Ok, Err, refl, sym, ap, ◌∙◌, subst, arith}
+use Rattle.std.proofs.Common.{false, ◌≡◌, inl, inr, ℕ, ◌≤◌, List, [], ◌∷◌, ◌++◌, Option, Some, None, Err, refl, sym, ap, ◌∙◌, subst, arith}
 use Rattle.std.specs.Prelude.{MatchOption}
 use Rattle.sb_text.specs.Refusal.{fault_of, first_fault, IsFault}
 use Rattle.sb_text.specs.Depth.{first_too_deep}
@@ -8,10 +8,10 @@ use Rattle.sb_text.specs.Tokens.{lexed}
 use Rattle.sb_text.specs.declared.token.TextFault.{TextFault}
 use Rattle.sb_text.specs.declared.token.TextFault.TheVariants as token_fault
 use Rattle.star_model.specs.declared.derivations.Deriv.{Deriv}
-use Rattle.spelling.specs.Lexemes.{MaybeEnded, ended, statements_in, Every}
+use Rattle.spelling.specs.Lexemes.{MaybeEnded, statements_in, Every}
 use Rattle.spelling.specs.Firsts.{FirstAt, NoneFrom, NoneHas}
 use Rattle.spelling.specs.FirstsCases.{one_first, none_first}
-use Rattle.spelling.specs.Derivations.{Step, statement_of, IsStep, steps, HasInputs, BeginsGlue, InOrder, SpellsDerivation}
+use Rattle.spelling.specs.Derivations.{Step, IsStep, steps, HasInputs, BeginsGlue, InOrder, SpellsDerivation}
 use Rattle.spelling.proofs.Laws.{one_derivation}
 use Rattle.derivation_reading.specs.declared.fault.DerivFault.{DerivFault}
 use Rattle.derivation_reading.specs.declared.fault.DerivFault.TheVariants.{Lexical, TooDeep, Syntax, TooTall, Memory}
@@ -19,27 +19,28 @@ use Rattle.derivation_reading.specs.TextFaults.{of_text}
 use Rattle.derivation_reading.specs.Places.{places_behind}
 use Rattle.derivation_reading.specs.Ancestors.{ancestors, IsTooFar, IsLow}
 use Rattle.derivation_reading.specs.OpenPlaces.{ancestors_of}
-use Rattle.derivation_reading.specs.Preorder.{Follow, AreWhole, SaysWhole, NodesRead}
-use Rattle.derivation_reading.specs.Faults.{SayNodes, GoesOn, IsStrange, EndsEarly, IsStrangeAt, HasFault, fault_rank, IsFirstFault, IsAccepted, ReadsDerivation}
+use Rattle.derivation_reading.specs.Preorder.{Follow, SaysWhole, NodesRead}
+use Rattle.derivation_reading.specs.Faults.{IsStrange, EndsEarly, IsStrangeAt, HasFault, fault_rank, IsFirstFault, IsAccepted, ReadsDerivation}
 use Rattle.derivation_reading.proofs.SoFar.{statements_for, one_list_of_nodes, statements-more, every-more}
-use Rattle.derivation_reading.proofs.Forests.{TreeOf, tree_of, whole_order, tree_whole}
+use Rattle.derivation_reading.proofs.Forests.{tree_of, whole_order, tree_whole}
 use Rattle.derivation_reading.proofs.TooFar.{tree_ancestors}
 
 -- ---- whole nodes have no strange statement
 
 follow_clear : (before nodes : List Step) → Every IsStep before → Every IsStep nodes → Follow before nodes → NoneFrom IsStrange (statements_for before) (statements_for nodes)
 follow_clear before [] done every follow = tt
-follow_clear before (node ∷ nodes) done every follow =
-    ((λ strange. strange (record {
-        nodes = before;
-        node = node;
-        say = record { are = refl; stand = done };
-        says = record { is = refl; stands = every.0 };
-        place = follow.0;
-        order = follow.1;
-      })),
-      subst (λ (l : List MaybeEnded). NoneFrom IsStrange l (statements_for nodes)) (statements-more before node)
-      (follow_clear (before ++ node ∷ []) nodes (every-more before node done every.0) every.1 follow.2))
+follow_clear before (node ∷ nodes) done every follow = (
+  (λ strange. strange (record {
+    nodes = before;
+    node = node;
+    say = record { are = refl; stand = done };
+    says = record { is = refl; stands = every.0 };
+    place = follow.0;
+    order = follow.1;
+  })),
+  subst (λ (l : List MaybeEnded). NoneFrom IsStrange l (statements_for nodes)) (statements-more before node)
+      (follow_clear (before ++ node ∷ []) nodes (every-more before node done every.0) every.1 follow.2),
+)
 
 pub says_clear : (text : List ℕ) (nodes : List Step) → SaysWhole text nodes → NoneHas IsStrange (statements_in text)
 says_clear text nodes says = subst (NoneHas IsStrange) (sym says.say.are) (follow_clear [] nodes tt says.say.stand says.whole.follow)

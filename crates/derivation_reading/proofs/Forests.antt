@@ -1,5 +1,5 @@
 -- Nodes in preorder that fill their places are those of one derivation.
-use Rattle.std.proofs.Common.{◌≡◌, ◌⊎◌, inl, inr, ℕ, zero, suc, ◌+◌, ◌-◌, ◌<◌, ◌≤◌, Bool, true, false, List, [], ◌∷◌, ◌++◌, map, length, refl, sym, ap, ◌∙◌, subst, arith, append_assoc, append-nil}
+use Rattle.std.proofs.Common.{◌≡◌, ◌⊎◌, inl, inr, ℕ, suc, ◌+◌, ◌-◌, ◌<◌, ◌≤◌, true, false, List, [], ◌∷◌, ◌++◌, length, refl, sym, ap, ◌∙◌, subst, arith, append_assoc, append-nil}
 use Rattle.std.specs.List.{flat_map}
 use Rattle.star_model.specs.declared.rules.Flavour.{Flavour}
 use Rattle.star_model.specs.declared.rules.Flavour.TheVariants as flavour
@@ -9,7 +9,7 @@ use Rattle.star_model.specs.DerivCases as d
 use Rattle.spelling.specs.Flavours.{inputs_of}
 use Rattle.spelling.specs.Lexemes.{Every}
 use Rattle.spelling.specs.Derivations.{Step, Glue, Goal, Reference, Operator, steps, HasInputs, is_glue, is_goal, BeginsGlue, InOrder}
-use Rattle.derivation_reading.specs.Places.{inputs, places_behind, MayStand}
+use Rattle.derivation_reading.specs.Places.{inputs, places_behind}
 use Rattle.derivation_reading.specs.Preorder.{Follow, AreWhole}
 use Rattle.derivation_reading.proofs.PlaceLaws.{places-append, may_stand-more}
 

@@ -1,6 +1,6 @@
 -- The loops that read the items of a statement.
 use Rattle.std.specs.Prelude.{is_some, IfNone}
-use Rattle.std.proofs.Common.{true, false, ◌≡◌, ℕ, zero, suc, ◌+◌, ◌-◌, ◌<◌, ◌≤◌, List, [], ◌∷◌, ◌++◌, Option, Some, None, refl, ap, ◌∙◌, codes, arith}
+use Rattle.std.proofs.Common.{true, false, ◌≡◌, ℕ, suc, ◌+◌, ◌-◌, ◌<◌, ◌≤◌, List, [], ◌∷◌, ◌++◌, Option, Some, None, refl, codes, arith}
 use Rattle.star_model.specs.Sets.{single, union}
 use Rattle.spelling.specs.Lexemes.{Lexeme}
 use Rattle.spelling.specs.Reading.{Reader, Reads, the_symbol, a_number}

@@ -1,6 +1,6 @@
 -- A derivation is made of its nodes from the last to the first.
-use Rattle.std.proofs.Common.{◌≡◌, ℕ, zero, suc, ◌+◌, ◌-◌, ◌<◌, ◌≤◌, List, [], ◌∷◌, ◌++◌, length, refl, sym, ap, ◌∙◌, subst, arith, append_assoc, append-nil}
-use Rattle.std.proofs.lemmas.List.{length_push, same_from_push, nil_from_length}
+use Rattle.std.proofs.Common.{◌≡◌, ℕ, ◌+◌, ◌-◌, ◌<◌, ◌≤◌, List, [], ◌∷◌, ◌++◌, length, refl, sym, ap, ◌∙◌, subst, arith, append_assoc, append-nil}
+use Rattle.std.proofs.lemmas.List.{length_push, nil_from_length}
 use Rattle.star_model.specs.declared.plans.GlueOp.{GlueOp}
 use Rattle.star_model.specs.declared.plans.Goal as model
 use Rattle.std.specs.Prelude.{Option}
@@ -11,7 +11,7 @@ use Rattle.star_model.specs.DerivCases.{made-Glue, made-Goal, made-Reference, ma
 use Rattle.spelling.specs.Flavours.{inputs_of}
 use Rattle.spelling.specs.Lexemes.{Every}
 use Rattle.spelling.specs.Derivations.{Step, Glue, Goal, Reference, Operator, steps, HasInputs, steps-Glue, steps-Goal, steps-Reference, steps-Leaf, steps-Unary, steps-Binary}
-use Rattle.derivation_reading.specs.Places.{inputs, places_behind, MayStand}
+use Rattle.derivation_reading.specs.Places.{inputs, places_behind}
 use Rattle.derivation_reading.specs.Preorder.{Follow, AreWhole}
 use Rattle.derivation_reading.specs.Piles.{pile_steps, Grows}
 use Rattle.derivation_reading.proofs.PlaceLaws.{places-append}

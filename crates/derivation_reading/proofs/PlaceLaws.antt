@@ -1,12 +1,10 @@
 -- The places that are counted while a derivation is read.
-use Rattle.std.proofs.Common.{◌≡◌, ◌↔◌, ℕ, ◌+◌, ◌-◌, ◌<◌, ◌≤◌, Bool, true, false, not, ◌&&◌, nat_lt, if◌then◌else◌, List, [], ◌∷◌, ◌++◌, length, refl, sym, ap, ◌∙◌, arith}
-use Rattle.std.proofs.lemmas.Bool.{lt-ltb, ltb-true, ltb-false, and_parts, not-true}
+use Rattle.std.proofs.Common.{◌≡◌, ℕ, ◌+◌, ◌-◌, ◌<◌, ◌≤◌, true, false, not, ◌&&◌, nat_lt, List, [], ◌∷◌, ◌++◌, refl, ap, arith}
+use Rattle.std.proofs.lemmas.Bool.{lt-ltb, ltb-true, and_parts, not-true}
 use Rattle.star_model.specs.declared.rules.Flavour.{Flavour}
 use Rattle.star_model.specs.declared.rules.Flavour.TheVariants as flavour
 use Rattle.spelling.specs.Flavours.{inputs_of}
 use Rattle.spelling.specs.Derivations.{Step, Glue, Goal, Reference, Operator, is_glue, is_goal}
-use Rattle.derivation_reading.specs.declared.places.Awaited.{Awaited}
-use Rattle.derivation_reading.specs.declared.places.Awaited.TheVariants as next
 use Rattle.derivation_reading.specs.Places.{inputs, places_behind, MayStand}
 use Rattle.derivation_reading.specs.PlaceTests.{awaited_behind, awaited, admits, takes}
 

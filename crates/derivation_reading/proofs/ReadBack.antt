@@ -1,11 +1,10 @@
 -- A derivation that is printed is read back.
-use Rattle.std.proofs.Common.{◌≡◌, ◌↔◌, ◌⊎◌, inl, inr, ℕ, ◌+◌, ◌*◌, ◌<◌, ◌≤◌, codes, List, [], ◌∷◌, ◌++◌, map, length, Option, Some, None, Result, Ok, Err, refl, sym, ap, ◌∙◌, subst, arith}
+use Rattle.std.proofs.Common.{◌≡◌, ◌↔◌, ◌⊎◌, inl, inr, ℕ, ◌+◌, ◌*◌, ◌≤◌, codes, List, [], ◌∷◌, ◌++◌, map, length, Option, Some, None, Result, Ok, Err, refl, ap, arith}
 use Rattle.std.specs.List.{AllPass}
 use Rattle.std.proofs.lemmas.List.{length-append, length-map}
 use Rattle.sb_text.specs.Front.{in_comment}
 use Rattle.sb_text.specs.Tokens.{lexed}
 use Rattle.sb_text.specs.Statements.{parts}
-use Rattle.sb_text.specs.Refusal.{fault_of}
 use Rattle.sb_text.proofs.Laws.{length-parts, length-lexed}
 use Rattle.star_model.specs.Sets.{members}
 use Rattle.star_model.specs.Judging.{node_count}
@@ -16,7 +15,7 @@ use Rattle.star_model.specs.declared.plans.GlueOp.{GlueOp}
 use Rattle.spelling.specs.Cursors.{part_said}
 use Rattle.spelling.specs.Layout.{commented}
 use Rattle.spelling.specs.Lexemes.{Lexeme, Word, Number, MaybeEnded, ended, statements_in, comma, right_brace, joined_by, Every}
-use Rattle.spelling.specs.Derivations.{Step, Glue, Goal, Reference, Operator, glue_word, set_lexemes, split_lexemes, statement_of, statements_of, IsStep, IsCounted, NamesWord, steps, canonical, IsWritable, SpellsDerivation}
+use Rattle.spelling.specs.Derivations.{Step, Glue, Goal, Reference, Operator, glue_word, set_lexemes, split_lexemes, statement_of, statements_of, IsStep, NamesWord, steps, canonical, IsWritable, SpellsDerivation}
 use Rattle.spelling.proofs.Laws.{one_derivation, written_derivation, commented_derivation}
 use Rattle.derivation_reading.specs.declared.fault.DerivFault.{DerivFault}
 use Rattle.derivation_reading.specs.declared.fault.DerivFault.TheVariants.{Lexical, TooDeep, Syntax, TooTall, Memory}

@@ -1,8 +1,8 @@
 -- Items up to a count are read as they are spelled, and nothing else is read.
-use Rattle.std.proofs.Common.{◌≡◌, ℕ, zero, suc, ◌≤◌, List, [], ◌∷◌, ◌++◌, map, length, Option, Some, None, refl, sym, ap, ◌∙◌, arith, append_assoc, append-nil}
+use Rattle.std.proofs.Common.{◌≡◌, ℕ, zero, suc, ◌≤◌, List, [], ◌∷◌, ◌++◌, map, length, Option, Some, None, sym, ap, ◌∙◌, arith, append_assoc, append-nil}
 use Rattle.std.proofs.lemmas.Option.{some_pair_parts}
 use Rattle.spelling.specs.Lexemes.{Lexeme, Every}
-use Rattle.spelling.specs.Reading.{Reader, ◌>>=◌, pure, given, either}
+use Rattle.spelling.specs.Reading.{Reader, ◌>>=◌, pure, given}
 use Rattle.spelling.specs.ReadingCases.{then_reads, choose, given_reads}
 use Rattle.derivation_reading.specs.StatementReading.{up_to}
 
@@ -51,8 +51,8 @@ module _ {A B : Type 0} (head : Reader A) (item : A → Option B) (spell : B →
   up_to-spelled (suc n) done lexemes all rest read =
       choose head (λ x. given (item x) >>= λ y. up_to head item n (done ++ y ∷ [])) (pure done) lexemes all rest read
       (λ x left there read_more.
-          then_reads (given (item x)) (λ y. up_to head item n (done ++ y ∷ [])) left all rest read_more (λ y behind given_there read_last.
-          let given_is = given_reads (item x) left y behind given_there in
-          let here = is.spelled lexemes left x y there given_is.0 ∙ ap (λ (l : List Lexeme). spell y ∷ l) given_is.1 in
-          one_more n done all lexemes behind rest y here (is.good x y given_is.0) (up_to-spelled n (done ++ y ∷ []) behind all rest read_last)))
+      then_reads (given (item x)) (λ y. up_to head item n (done ++ y ∷ [])) left all rest read_more (λ y behind given_there read_last.
+      let given_is = given_reads (item x) left y behind given_there in
+      let here = is.spelled lexemes left x y there given_is.0 ∙ ap (λ (l : List Lexeme). spell y ∷ l) given_is.1 in
+      one_more n done all lexemes behind rest y here (is.good x y given_is.0) (up_to-spelled n (done ++ y ∷ []) behind all rest read_last)))
       (λ none. no_more (suc n) done all lexemes rest none)

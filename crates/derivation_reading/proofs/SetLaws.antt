@@ -3,7 +3,7 @@ use Rattle.std.proofs.Common.{◌≡◌, Bool, false, ℕ, zero, suc, ◌+◌, �
 use Rattle.std.proofs.lemmas.Bool.{lt-ltb, ltb-true, and_parts}
 use Rattle.std.proofs.lemmas.Option.{some_pair_parts}
 use Rattle.star_model.specs.Sets.{members, single, union}
-use Rattle.spelling.specs.Lexemes.{Lexeme, Number, Symbol, left_brace, right_brace, comma, joined_by}
+use Rattle.spelling.specs.Lexemes.{Lexeme, Number, left_brace, right_brace, comma, joined_by}
 use Rattle.spelling.specs.Derivations.{set_lexemes, IsMask}
 use Rattle.spelling.specs.Reading.{◌>>◌, pure, either, the_symbol, a_number, given}
 use Rattle.spelling.specs.ReadingCases.{then_reads, pass, choose, given_reads}
@@ -138,8 +138,8 @@ set_is_spelled lexemes s rest read =
     choose (the_symbol (codes "}")) (λ _. pure 0) (members_behind 32 0 0) left s rest inside
     (λ _ last closed is. empty left last here closed is)
     (λ more.
-        let are = members_spelled 32 0 0 left s rest more in
-        of_members lexemes s (are.first ∷ are.later) rest are.rising are.is (here ∙ ap (λ (l : List Lexeme). left_brace ∷ l) are.spelled)))
+    let are = members_spelled 32 0 0 left s rest more in
+    of_members lexemes s (are.first ∷ are.later) rest are.rising are.is (here ∙ ap (λ (l : List Lexeme). left_brace ∷ l) are.spelled)))
   where
     empty : (left last : List Lexeme) → lexemes ≡ left_brace ∷ left → the_symbol (codes "}") left ≡ Some (tt, last) → ◌≡◌ {A = Option (ℕ × List Lexeme)} (Some (0, last)) (Some (s, rest)) → IsSet lexemes s rest
     empty left last here closed is =

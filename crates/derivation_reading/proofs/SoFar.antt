@@ -1,12 +1,12 @@
 -- The nodes that were read, statement by statement.
-use Rattle.std.proofs.Common.{◌≡◌, ◌⊎◌, inl, inr, ℕ, ◌+◌, ◌-◌, ◌<◌, ◌≤◌, Bool, true, false, List, [], ◌∷◌, ◌++◌, map, length, refl, sym, ap, ◌∙◌, subst, arith, append_assoc, append-nil}
+use Rattle.std.proofs.Common.{◌≡◌, inl, inr, ℕ, ◌+◌, ◌-◌, ◌<◌, ◌≤◌, true, false, List, [], ◌∷◌, ◌++◌, map, length, refl, sym, ap, ◌∙◌, subst, arith, append_assoc, append-nil}
 use Rattle.std.proofs.lemmas.List.{map-append, length-map, length_push}
 use Rattle.sb_text.specs.declared.token.Token.{Token}
 use Rattle.sb_text.specs.Statements.{Part, parts}
 use Rattle.sb_text.specs.Refusal.{AreTokens}
 use Rattle.spelling.specs.Lexemes.{MaybeEnded, ended, statements_in, Every}
 use Rattle.spelling.specs.Cursors.{part_said, IsPartOf}
-use Rattle.spelling.specs.Firsts.{NoneHas, FirstAt}
+use Rattle.spelling.specs.Firsts.{NoneHas}
 use Rattle.spelling.specs.FirstsCases.{none_more, first_is_new, first_stays}
 use Rattle.spelling.specs.Derivations.{Step, statement_of, IsStep}
 use Rattle.spelling.proofs.Laws.{parts_said, parts_hold, parts_few}
@@ -15,8 +15,8 @@ use Rattle.derivation_reading.specs.declared.places.Awaited.TheVariants as next
 use Rattle.derivation_reading.specs.Nodes.{SaysNode}
 use Rattle.derivation_reading.specs.Places.{inputs, places_behind, MayStand}
 use Rattle.derivation_reading.specs.PlaceTests.{awaited_behind, awaited, takes}
-use Rattle.derivation_reading.specs.Faults.{SayNodes, GoesOn, IsStrange, EndsEarly, IsStrangeAt}
-use Rattle.derivation_reading.specs.Preorder.{Follow, AreWhole, SaysWhole}
+use Rattle.derivation_reading.specs.Faults.{SayNodes, GoesOn, IsStrange, IsStrangeAt}
+use Rattle.derivation_reading.specs.Preorder.{Follow, SaysWhole}
 use Rattle.derivation_reading.proofs.Understood.{one_node}
 use Rattle.derivation_reading.proofs.PlaceLaws.{few_inputs, places-append, awaited-more, taken, not_taken}
 
@@ -146,8 +146,10 @@ module _ (source : List ℕ) (nodes : List Step) (places : ℕ) (awaits : Awaite
   pub ends_early : (places ≡ 0 → ⊥) → IsStrangeAt (statements_in source) number
   ends_early some =
       let size = ap (λ (l : List MaybeEnded). length l) all_said in
-      inr ((record { clear = clear_all; nodes = nodes; say = say_all; place = omega (arith, so_far.places_are, some) },
-        omega (arith, so_far.number_is, size, length-map nodes statement_of, length-map (map statement_of nodes) ended)))
+      inr ((
+        record { clear = clear_all; nodes = nodes; say = say_all; place = omega (arith, so_far.places_are, some) },
+        omega (arith, so_far.number_is, size, length-map nodes statement_of, length-map (map statement_of nodes) ended),
+      ))
 
   pub is_whole : places ≡ 0 → SaysWhole source nodes × (length nodes ≤ 1048576)
   is_whole none = (record { say = say_all; whole = record { follow = so_far.follow; none_left = sym so_far.places_are ∙ none } }, omega (arith, so_far.number_is, so_far.few))

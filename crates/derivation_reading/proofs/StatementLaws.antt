@@ -1,5 +1,5 @@
 -- A statement is read as it is spelled, and nothing else is read.
-use Rattle.std.proofs.Common.{◌≡◌, ℕ, ◌+◌, ◌<◌, ◌≤◌, ◌&&◌, Bool, true, false, nat_lt, List, [], ◌∷◌, ◌++◌, map, length, codes, Option, Some, None, if◌then◌else◌, refl, sym, ap, ◌∙◌, subst, arith, append-nil}
+use Rattle.std.proofs.Common.{◌≡◌, ℕ, ◌≤◌, ◌&&◌, Bool, true, false, nat_lt, List, [], ◌∷◌, ◌++◌, map, length, codes, Option, Some, None, if◌then◌else◌, refl, sym, ap, ◌∙◌, subst, arith, append-nil}
 use Rattle.std.specs.List.{find}
 use Rattle.std.specs.Option.{option_map}
 use Rattle.std.proofs.lemmas.Bool.{lt-ltb, ltb-true, and_parts}
@@ -15,11 +15,11 @@ use Rattle.spelling.specs.Lexemes.{Lexeme, Word, Number, Every}
 use Rattle.spelling.specs.Flavours.{flavour_word}
 use Rattle.spelling.specs.RuleWords.{flavour_of}
 use Rattle.spelling.specs.Derivations.{Step, Glue, Goal, Reference, Operator, glue_word, set_lexemes, split_lexemes, statement_of, IsMask, IsCounted, AreMasks, IsStep}
-use Rattle.spelling.specs.Reading.{Reader, ◌>>=◌, ◌>>◌, pure, given, either, the_word, a_word, a_number}
+use Rattle.spelling.specs.Reading.{◌>>=◌, pure, given, the_word, a_word, a_number}
 use Rattle.spelling.specs.ReadingCases.{then_reads, pass, choose, given_reads}
 use Rattle.spelling.proofs.Laws.{the_word_reads, a_word_reads, a_number_reads}
 use Rattle.derivation_reading.specs.StatementReading.{glue_operator, chain_at, counted, counted_at, values_at, set_at, split_at, goal_at, reference_at, behind, node_at}
-use Rattle.derivation_reading.proofs.SeriesLaws.{IsItem, AreItems, up_to-read, up_to-spelled}
+use Rattle.derivation_reading.proofs.SeriesLaws.{IsItem, up_to-read, up_to-spelled}
 use Rattle.derivation_reading.proofs.SetLaws.{set_is_read, set_is_spelled}
 
 -- ---- the operators of Glue
@@ -157,9 +157,9 @@ unfolding split_at
 split_spelled lexemes split read =
     choose (the_word (codes "split")) (λ _. set_at >>= λ left. set_at >>= λ right. pure (Some (left, right))) (pure None) lexemes split [] read
     (λ _ inside there parts.
-        then_reads set_at (λ left. set_at >>= λ right. pure (Some (left, right))) inside split [] parts (λ left behind_left left_is read_right.
-        then_reads set_at (λ right. pure (Some (left, right))) behind_left split [] read_right (λ right behind_right right_is last.
-        two inside behind_left behind_right left right there left_is right_is last)))
+    then_reads set_at (λ left. set_at >>= λ right. pure (Some (left, right))) inside split [] parts (λ left behind_left left_is read_right.
+    then_reads set_at (λ right. pure (Some (left, right))) behind_left split [] read_right (λ right behind_right right_is last.
+    two inside behind_left behind_right left right there left_is right_is last)))
     (λ none. let parts = some_pair_parts None split lexemes [] none in no_split split parts.0 parts.1)
   where
     no_split : (split : Option (ℕ × ℕ)) → None ≡ split → lexemes ≡ [] → (lexemes ≡ split_lexemes split) × AreMasks split

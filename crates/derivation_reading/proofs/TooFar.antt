@@ -1,6 +1,5 @@
 -- The ancestors of nodes in preorder, and the first node that has too many.
-use Rattle.std.proofs.Common.{◌≡◌, ◌⊎◌, ℕ, zero, suc, ◌+◌, ◌<◌, ◌≤◌, Bool, true, false, nat_lt, if◌then◌else◌, List, [], ◌∷◌, ◌++◌, length, map, drop, get_or, replicate, reverse, Option, Some, None, refl, sym, ap, ◌∙◌, subst, arith, add-one, append_assoc, append-nil}
-use Rattle.std.specs.Prelude.{MatchOption}
+use Rattle.std.proofs.Common.{◌≡◌, ℕ, suc, ◌+◌, ◌<◌, ◌≤◌, Bool, true, false, nat_lt, if◌then◌else◌, List, [], ◌∷◌, ◌++◌, length, map, drop, get_or, replicate, reverse, Option, Some, None, refl, sym, ap, ◌∙◌, subst, arith, add-one, append_assoc, append-nil}
 use Rattle.std.proofs.lemmas.Bool.{ltb-true, ltb-false, lt-ltb, le-ltb}
 use Rattle.std.proofs.lemmas.List.{reverse-append, drop_more}
 use Rattle.star_model.specs.declared.rules.Flavour.{Flavour}
@@ -9,7 +8,7 @@ use Rattle.star_model.specs.declared.derivations.Deriv.TheVariants as made
 use Rattle.star_model.specs.DerivCases as d
 use Rattle.spelling.specs.Flavours.{inputs_of}
 use Rattle.spelling.specs.Firsts.{FirstFrom, NoneFrom, FirstAt, NoneHas}
-use Rattle.spelling.specs.Derivations.{Step, Glue, Goal, Reference, Operator, steps, HasInputs}
+use Rattle.spelling.specs.Derivations.{Step, Operator, steps, HasInputs}
 use Rattle.derivation_reading.specs.Places.{inputs}
 use Rattle.derivation_reading.specs.Ancestors.{ancestors, IsTooFar}
 use Rattle.derivation_reading.specs.OpenPlaces.{ancestors_of}

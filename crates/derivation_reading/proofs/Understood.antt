@@ -1,12 +1,11 @@
 -- What reading a statement answers: the one node that it says, or that it says none.
-use Rattle.std.proofs.Common.{◌≡◌, Bool, true, false, List, [], Option, Some, None, Err, refl, sym, ap, ◌∙◌}
+use Rattle.std.proofs.Common.{◌≡◌, true, false, List, [], Some, Err, sym, ap, ◌∙◌}
 use Rattle.std.proofs.lemmas.Option.{some_pair_parts}
 use Rattle.spelling.specs.Lexemes.{Lexeme, MaybeEnded}
-use Rattle.spelling.specs.Derivations.{Step, statement_of}
+use Rattle.spelling.specs.Derivations.{Step}
 use Rattle.derivation_reading.specs.declared.unread.Unread.{Unread}
 use Rattle.derivation_reading.specs.declared.unread.Unread.TheVariants.{Strange, Memory}
-use Rattle.derivation_reading.specs.declared.nodes.Node.{Node}
-use Rattle.derivation_reading.specs.Nodes.{said, SaysNode}
+use Rattle.derivation_reading.specs.Nodes.{SaysNode}
 use Rattle.derivation_reading.specs.NodeReading.{Answers, NodeRead}
 use Rattle.derivation_reading.specs.StatementReading.{node_at}
 use Rattle.derivation_reading.proofs.StatementLaws.{node_is_read, node_is_spelled}

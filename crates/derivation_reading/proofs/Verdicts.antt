@@ -1,9 +1,6 @@
 -- Each text has a verdict.
-use Rattle.std.proofs.Common.{◌≡◌, ◌⊎◌, inl, inr, ℕ, zero, suc, ◌+◌, ◌-◌, ◌≤◌, Bool, true, false, List, [], ◌∷◌, ◌++◌, length, Option, Some, None, Err, refl, sym, ap, ◌∙◌, subst, arith}
-use Rattle.std.proofs.lemmas.Option.{some_pair_parts}
-use Rattle.sb_text.specs.declared.token.TextFault.{TextFault}
+use Rattle.std.proofs.Common.{◌≡◌, ◌⊎◌, inl, inr, ℕ, zero, suc, ◌+◌, ◌-◌, ◌≤◌, Bool, true, false, List, [], ◌∷◌, ◌++◌, length, Option, Some, None, refl, sym, ◌∙◌}
 use Rattle.sb_text.specs.declared.token.TextFault.TheVariants as token_fault
-use Rattle.sb_text.specs.declared.token.Token.{Token}
 use Rattle.sb_text.specs.Statements.{Part, parts}
 use Rattle.sb_text.specs.Tokens.{lexed}
 use Rattle.sb_text.specs.Refusal.{fault_of, first_fault, AreTokens}

@@ -1,5 +1,5 @@
 -- Trees that are put down one on the other while a derivation is made.
-use Rattle.std.specs.Prelude.{◌≡◌, ℕ, ◌+◌, List, [], ◌∷◌, ◌++◌, length}
+use Rattle.std.specs.Prelude.{◌≡◌, ◌+◌, List, [], ◌∷◌, ◌++◌, length}
 use Rattle.star_model.specs.declared.derivations.Deriv.{Deriv}
 use Rattle.spelling.specs.Lexemes.{Every}
 use Rattle.spelling.specs.Derivations.{Step, steps, HasInputs}

@@ -4,7 +4,6 @@ use Rattle.star_model.specs.Sets.{single, union}
 use Rattle.star_model.specs.Vectors.{same_numbers}
 use Rattle.star_model.specs.declared.plans.GlueOp.{GlueOp}
 use Rattle.star_model.specs.declared.plans.GlueOp.TheVariants as glue
-use Rattle.spelling.specs.Lexemes.{Lexeme}
 use Rattle.spelling.specs.Reading.{Reader, ◌>>=◌, ◌>>◌, pure, given, the_word, the_symbol, a_word, a_number, either}
 use Rattle.spelling.specs.RuleWords.{flavour_of}
 use Rattle.spelling.specs.Derivations.{Step, Glue, Goal, Reference, Operator}
@@ -49,7 +48,7 @@ unfoldable pub members_behind : ℕ → ℕ → ℕ → Reader ℕ
 members_behind zero least set lexemes = None
 members_behind (suc n) least set lexemes =
     (a_number >>= λ m. given (member_of least m) >>= λ k.
-        either (the_symbol (codes "}")) (λ _. pure (union set (single k))) (the_symbol (codes ",") >> members_behind n (k + 1) (union set (single k)))) lexemes
+    either (the_symbol (codes "}")) (λ _. pure (union set (single k))) (the_symbol (codes ",") >> members_behind n (k + 1) (union set (single k)))) lexemes
 
 unfoldable pub set_at : Reader ℕ
 set_at = the_symbol (codes "{") >> either (the_symbol (codes "}")) (λ _. pure 0) (members_behind 32 0 0)

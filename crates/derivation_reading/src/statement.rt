@@ -73,11 +73,7 @@ fn front(alloc: Global, cursor: &mut Cursor<'_>) -> Result<Node, Unread>
 }
 
 /// What a statement says of its node, from its tokens.
-pub fn read_node(
-    alloc: Global,
-    source: &[u8],
-    statement: &Statement<'_>,
-) -> Result<Node, Unread>
+pub fn read_node(alloc: Global, source: &[u8], statement: &Statement<'_>) -> Result<Node, Unread>
     requires { AreTokensOf source.now statement.now.tokens.now }
     ensures { NodeRead (part_said source.now (part_of statement.now)) result }
 {

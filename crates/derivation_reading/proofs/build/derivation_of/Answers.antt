@@ -1,4 +1,4 @@
-use Rattle.std.proofs.Common.{◌∙◌, ◌≡◌, List, [], ◌∷◌, ◌++◌, map, sym, ap, subst, rules, arith}
+use Rattle.std.proofs.Common.{◌∙◌, List, [], ◌∷◌, map, ap, subst, arith}
 use Rattle.std.proofs.lemmas.List.{map-append}
 use Rattle.spelling.specs.Derivations.{Step}
 use Rattle.derivation_reading.specs.Nodes.{said}

@@ -1,4 +1,4 @@
-use Rattle.std.proofs.Common.{◌∙◌, List, [], ◌∷◌, ◌++◌, sym, ap}
+use Rattle.std.proofs.Common.{◌∙◌, [], ◌∷◌, ◌++◌, sym, ap}
 use Rattle.star_model.specs.declared.derivations.Deriv.{Deriv}
 use Rattle.derivation_reading.proofs.Piles.{glue_grows, goal_grows, reference_grows}
 use Rattle.derivation_reading.proofs.build.grown.Goals as goal

@@ -1,4 +1,4 @@
-use Rattle.std.proofs.Common.{◌∙◌, List, [], ◌∷◌, ◌++◌, sym, ap, arith, ◌≡◌}
+use Rattle.std.proofs.Common.{◌∙◌, [], ◌∷◌, ◌++◌, sym, ap, arith, ◌≡◌}
 use Rattle.star_model.specs.declared.derivations.Deriv.{Deriv}
 use Rattle.spelling.specs.Flavours.{inputs_of}
 use Rattle.derivation_reading.proofs.PlaceLaws.{few_of}

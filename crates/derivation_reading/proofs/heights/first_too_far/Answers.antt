@@ -1,4 +1,4 @@
-use Rattle.std.proofs.Common.{◌∙◌, ◌≡◌, ℕ, ◌+◌, ◌++◌, ◌∷◌, [], List, Some, None, map, drop, replicate, reverse, sym, ap, subst, arith}
+use Rattle.std.proofs.Common.{◌∙◌, ◌≡◌, ℕ, ◌+◌, ◌++◌, ◌∷◌, [], List, map, drop, replicate, reverse, sym, ap, subst, arith}
 use Rattle.std.proofs.lemmas.List.{drop_all}
 use Rattle.spelling.specs.Derivations.{Step}
 use Rattle.derivation_reading.specs.Nodes.{said}

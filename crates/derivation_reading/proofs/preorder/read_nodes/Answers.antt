@@ -1,4 +1,4 @@
-use Rattle.std.proofs.Common.{◌∙◌, ◌+◌, List, [], ◌∷◌, map, sym, ap, subst, rules}
+use Rattle.std.proofs.Common.{◌∙◌, ◌+◌, List, [], ◌∷◌, map, sym, ap, subst}
 use Rattle.std.proofs.lemmas.List.{map-append}
 use Rattle.spelling.specs.Derivations.{Step}
 use Rattle.sb_text.specs.Statements.{Part, part_of, parts_of_iter}
@@ -31,6 +31,6 @@ loop-statement-preserved c =
     let cut = subst (λ (left : List Part). SoFar c.args.source.now (map said l.nodes) left l.places.left l.places.awaited l.number) c.in-Some.ensures.steps l.invariant in
     let new = c.behind-places.result in
     let more = goes c.args.source.now (map said l.nodes) (part_of c.in-Some.statement) (parts_of_iter c.next.new.self) l.places.left l.places.awaited l.number cut (said c.in-Ok.node) new.left new.awaited
-        c.in-Ok.ensures (sym c.if-not-takes.ensures) c.behind-places.ensures.left c.behind-places.ensures.awaited in
+    c.in-Ok.ensures (sym c.if-not-takes.ensures) c.behind-places.ensures.left c.behind-places.ensures.awaited in
     let pushed = ap (map said) c.in_ok-push.ensures.ok ∙ map-append said l.nodes (c.in-Ok.node ∷ []) in
     subst (λ (nodes : List Step). SoFar c.args.source.now nodes (parts_of_iter c.next.new.self) new.left new.awaited (l.number + 1)) (sym pushed) more

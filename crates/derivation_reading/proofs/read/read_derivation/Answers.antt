@@ -1,11 +1,6 @@
-use Rattle.std.proofs.Common.{◌∙◌, ◌∷◌, [], List, map, Option, Some, None, sym, ap, subst}
-use Rattle.std.specs.Prelude.{MatchOption}
+use Rattle.std.proofs.Common.{map}
 use Rattle.std.proofs.lemmas.Result.{err_from_is_err_and}
-use Rattle.spelling.specs.Firsts.{FirstAt, NoneHas}
 use Rattle.derivation_reading.specs.Nodes.{said}
-use Rattle.derivation_reading.specs.Ancestors.{IsTooFar}
-use Rattle.derivation_reading.specs.OpenPlaces.{ancestors_of}
-use Rattle.derivation_reading.specs.declared.nodes.Node.{Node}
 use Rattle.derivation_reading.proofs.FaultLaws.{tokens_refused, nodes_refused, height_refused, accepted, if_some, if_none}
 use Rattle.derivation_reading.proofs.read.read_derivation.Goals as goal
 

@@ -1,4 +1,4 @@
-use Rattle.std.proofs.Common.{◌≡◌, None, Some, List, Option, codes, ◌∙◌, sym, subst}
+use Rattle.std.proofs.Common.{◌≡◌, None, Some, List, codes, ◌∙◌, sym, subst}
 use Rattle.spelling.specs.Lexemes.{Lexeme}
 use Rattle.spelling.specs.Reading.{the_symbol}
 use Rattle.derivation_reading.proofs.Loops.{no_number, no_member, last_member, no_comma, one_more, too_many, is_there, is_absent, stays_there}
