@@ -1,5 +1,5 @@
 -- Steps of judging: a node that doesn't fit, one that does, and what is made of a judgement below.
-use Rattle.std.proofs.Common.{◌≡◌, ℕ, Option, Some, None, refl, ap, ◌∙◌}
+use Rattle.std.proofs.Common.{◌≡◌, ℕ, Option, Some, None, ap, ◌∙◌}
 use Rattle.star_model.specs.Judging.{Judgement, Vector, FirstInvalid, fitting, if_valid}
 use Rattle.star_model.specs.declared.plans.Props.{Props}
 

@@ -1,5 +1,5 @@
 -- Each tree has a node.
-use Rattle.std.proofs.Common.{ℕ, ◌≤◌, ◌+◌, arith}
+use Rattle.std.proofs.Common.{◌≤◌, arith}
 use Rattle.star_model.specs.Judging.{node_count}
 use Rattle.star_model.specs.DerivCases.{Glue, Goal, Reference, Unary, Binary}
 use Rattle.star_model.specs.declared.derivations.Deriv.TheVariants.{Leaf}

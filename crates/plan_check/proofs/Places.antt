@@ -1,17 +1,17 @@
 -- Where judging comes is sound: what the parts of a node stand against that stands against a place is one.
-use Rattle.std.proofs.Common.{◌≡◌, ℕ, ◌<◌, ◌^◌, Bool, true, false, ◌&&◌, nat_eq, nat_lt, List, Option, Some, None, refl, ap, sym, ◌∙◌, subst, if◌then◌else◌}
+use Rattle.std.proofs.Common.{◌≡◌, ℕ, ◌^◌, Bool, true, false, ◌&&◌, nat_eq, nat_lt, List, Option, Some, None, refl, ap, sym, ◌∙◌, subst, if◌then◌else◌}
 use Rattle.std.specs.Prelude.{option_and_then}
 use Rattle.std.proofs.lemmas.Bool.{and_parts, ltb-true}
 use Rattle.star_model.proofs.Laws.{same_are}
 use Rattle.star_model.specs.AskedGoals.{Below, AskedGoal}
 use Rattle.star_model.specs.Accepted.{IsAccepted}
 use Rattle.star_model.specs.Costs.{same_flavour}
-use Rattle.star_model.specs.Sets.{size, is_within}
+use Rattle.star_model.specs.Sets.{is_within}
 use Rattle.star_model.specs.Predicates.{all_quants}
-use Rattle.star_model.specs.Meaning.{meaning, as_stream, as_preds}
+use Rattle.star_model.specs.Meaning.{meaning, as_stream}
 use Rattle.star_model.specs.Vectors.{same_numbers}
 use Rattle.star_model.specs.WellFormed.{WellFormedQuery}
-use Rattle.star_model.specs.Expected.{Expected, ForQuery, ForGoal, Call, Expression, goal_of, glue_of, query_goal, may_split, root_call, goal_body, body_of, as_call, values_of, reference_body, operator_of, unary_of, binary_of, as_unary, as_binary}
+use Rattle.star_model.specs.Expected.{Expected, ForGoal, Call, Expression, glue_of, query_goal, may_split, root_call, goal_body, body_of, as_call, values_of, reference_body, operator_of, unary_of, binary_of, as_unary, as_binary}
 use Rattle.star_model.specs.PlanExprCases as expr
 use Rattle.star_model.specs.declared.rules.PlanExpr.TheVariants as plain
 use Rattle.star_model.specs.declared.plans.Goal.{Goal}
@@ -23,7 +23,7 @@ use Rattle.star_model.specs.declared.rules.PlanExpr.{PlanExpr}
 use Rattle.star_model.specs.declared.rules.RuleFile.{RuleFile}
 use Rattle.star_model.specs.declared.rules.ValueExpr.{ValueExpr}
 use Rattle.star_model.specs.declared.values.RuleValue.{RuleValue}
-use Rattle.star_check.specs.SoundPlaces.{may_read, IsSound}
+use Rattle.star_check.specs.SoundPlaces.{may_read}
 use Rattle.star_check.proofs.Laws.{below_is_sound, glue_reads_within, asked_goals_are_goals}
 use Rattle.plan_check.specs.Places.{IsPlace}
 
@@ -108,8 +108,7 @@ inputs_are_places rules q f (expr.Binary g args left right) b o y z accepted pla
         → IsPlace rules y × IsPlace rules z
     go true is =
         let P : Option (Op × Expected × Expected) → Type 0 = λ o. elim o [ Some p ↦ IsPlace rules p.1 × IsPlace rules p.2 | None ↦ ⊥ ] in
-        subst P is
-        (
+        subst P is (
           below rules q (Expression (expr.Binary g args left right) b) (Expression left b) accepted place (Below.by_left g args left right b),
           below rules q (Expression (expr.Binary g args left right) b) (Expression right b) accepted place (Below.by_right g args left right b),
         )

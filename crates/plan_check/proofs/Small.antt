@@ -1,8 +1,7 @@
 -- At a place a reference has few arguments, and a STAR that is called has few parameters.
-use Prim.Native.Nat.{zero, suc}
 use Rattle.std.proofs.Common.{◌≡◌, ℕ, ◌≤◌, Bool, true, false, ◌&&◌, nat_eq, List, [], ◌∷◌, Option, Some, None, refl, ap, subst, arith, length, if◌then◌else◌}
-use Rattle.std.specs.Prelude.{Contains, is_some}
-use Rattle.std.specs.List.{list_all, find}
+use Rattle.std.specs.Prelude.{is_some}
+use Rattle.std.specs.List.{find}
 use Rattle.std.specs.Option.{option_map_or}
 use Rattle.std.proofs.lemmas.Bool.{false≢true, and_parts, eqb-true}
 use Rattle.std.proofs.lemmas.List.{length-map}

@@ -66,13 +66,7 @@ pub fn bind(query: &Query, ranges: &[ForAll], numbers: &[u32], env: Env) -> Opti
     ensures { result ≡ bound query.now ranges.now numbers.now env }
 {
     match ranges {
-        [] => {
-            if numbers.is_empty() {
-                Some(env)
-            } else {
-                None
-            }
-        }
+        [] => { if numbers.is_empty() { Some(env) } else { None } }
         [each, ranges @ ..] => match numbers {
             [] => None,
             [number, numbers @ ..] => {

@@ -30,11 +30,8 @@ pub fn stepped(
     requires { WellFormedQuery basis.now.query.now }
     ensures { Tells result (vector_or node (step basis.now.query.now (costs_of basis.now.rules.now) op.now inputs.now)) (last + 1) }
 {
-    answer(
-        step(basis.query, basis.rules.costs(), op, inputs),
-        node,
-        last,
-    )
+    let made = step(basis.query, basis.rules.costs(), op, inputs);
+    answer(made, node, last)
 }
 
 fn only_satisfying(query: &Query, require: &Require, props: Props) -> Option<Props>
@@ -74,11 +71,8 @@ pub fn enforced(
         (chain_vector basis.now.query.now (costs_of basis.now.rules.now) require.now chain.now below.props)))
         (below.last + 1) }
 {
-    answer(
-        chained(basis, require, chain, below.props),
-        node,
-        below.last,
-    )
+    let last = below.last;
+    answer(chained(basis, require, chain, below.props), node, last)
 }
 
 fn only_of_goal(query: &Query, goal: &Goal, props: Props) -> Option<Props>
@@ -103,9 +97,6 @@ pub fn targeted(
     requires { WellFormedQuery basis.now.query.now }
     ensures { Tells result (vector_or node (only_if (is_target basis.now.query.now goal.now.tables goal.now.pushed) below.props)) (below.last + 1) }
 {
-    answer(
-        only_of_goal(basis.query, goal, below.props),
-        node,
-        below.last,
-    )
+    let last = below.last;
+    answer(only_of_goal(basis.query, goal, below.props), node, last)
 }

@@ -1,4 +1,4 @@
-use Rattle.std.proofs.Common.{arith, ap, sym, ◌∙◌, List, ◌++◌, append-nil, ℕ}
+use Rattle.std.proofs.Common.{arith, ap, ◌∙◌, List, ◌++◌, append-nil, ℕ}
 use Rattle.star_model.specs.declared.values.RuleValue.{RuleValue}
 use Rattle.plan_check.proofs.Members.{member_found, member_missed}
 use Rattle.plan_check.proofs.bindings.member.Goals as goal
