@@ -1,14 +1,17 @@
--- The goals that a query asks for are those asked from its goal, and a closed memo holds with each goal all that are asked from it.
-use Rattle.std.proofs.Common.{ℕ, List}
-use Rattle.std.specs.Prelude.{◌↔◌}
+-- The goals that a query asks for are those asked from its goal, and a closed memo holds with each goal all that are asked from it. So a
+-- memo that grew from nothing for the query's goal holds just the goals that the query asks for.
+use Rattle.std.proofs.Common.{◌≡◌, ℕ, List, [], ◌++◌, ap, sym, ◌∙◌, subst}
+use Rattle.std.specs.Prelude.{◌↔◌, Contains}
 use Rattle.star_model.specs.AskedGoals.{Asks, AskedGoal}
 use Rattle.star_model.specs.Predicates.{all_quants}
 use Rattle.star_model.specs.declared.plans.Goal.{Goal}
 use Rattle.star_model.specs.declared.query.Query.{Query}
 use Rattle.star_model.specs.declared.rules.RuleFile.{RuleFile}
 use Rattle.table_set_memo.specs.Memos.{GoalSet, IsHeld}
+use Rattle.table_set_memo.proofs.Laws.{plans_at-listed}
 use Rattle.search_places.specs.Memos.{HoldsAsked, IsClosed}
-use Rattle.star_expand.specs.Expanding.{AskedFrom}
+use Rattle.star_expand.specs.Expanding.{AskedFrom, Grows, HoldsQueryGoals}
+use Rattle.star_expand.proofs.Growing.{some_plans}
 
 module _ (q : Query) (rules : RuleFile) where
   one_further : (s j u l t k : ℕ) → AskedFrom q rules s j u l → Asks q rules u l t k → AskedFrom q rules s j t k
@@ -36,3 +39,20 @@ module _ (q : Query) (rules : RuleFile) where
 
   pub closed_holds : (memo : List GoalSet) (g h : Goal) → IsClosed q rules memo → IsHeld memo g → AskedFrom q rules g.tables g.pushed h.tables h.pushed → IsHeld memo h
   closed_holds memo g h closed held from = held_further memo closed g.tables g.pushed h.tables h.pushed from held
+
+  pub query_goals_held : (old new : List GoalSet) (g : Goal) → old ≡ [] → g ≡ goal_with (all_quants q) 0 → IsClosed q rules new → Grows q rules g old new → IsHeld new g → HoldsQueryGoals q rules new
+  query_goals_held old new g empty own closed grows held h = (asked, all)
+    where
+      from_own : (t k : ℕ) → AskedFrom q rules g.tables g.pushed t k → AskedFrom q rules (all_quants q) 0 t k
+      from_own t k from = subst (λ (u : Goal). AskedFrom q rules u.tables u.pushed t k) own from
+
+      asked : IsHeld new h → AskedGoal q rules h.tables h.pushed
+      asked held =
+          let (plans, at) = some_plans q rules new h held in
+          let listed = subst (λ (m : List GoalSet). Contains {X = GoalSet} m (h, plans)) (grows.behind ∙ ap (λ m. m ++ grows.added) empty) (plans_at-listed new h plans at) in
+          (asked_from_query h.tables h.pushed).1 (from_own h.tables h.pushed (grows.asked (h, plans) listed))
+
+      all : AskedGoal q rules h.tables h.pushed → IsHeld new h
+      all asked =
+          closed_holds new g h closed held
+          (subst (λ (u : Goal). AskedFrom q rules u.tables u.pushed h.tables h.pushed) (sym own) ((asked_from_query h.tables h.pushed).0 asked))

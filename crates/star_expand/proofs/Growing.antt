@@ -53,7 +53,7 @@ module _ (q : Query) (rules : RuleFile) where
 
   -- ---- what stays
 
-  some_plans : (memo : List GoalSet) (h : Goal) → IsHeld memo h → (plans : List DerivedPlan) × (plans_at memo h ≡ Some plans)
+  pub some_plans : (memo : List GoalSet) (h : Goal) → IsHeld memo h → (plans : List DerivedPlan) × (plans_at memo h ≡ Some plans)
   some_plans memo h held = of (plans_at memo h) refl held
     where
       of : (o : Option (List DerivedPlan)) → plans_at memo h ≡ o → IsSome o → (plans : List DerivedPlan) × (plans_at memo h ≡ Some plans)

@@ -1,10 +1,10 @@
--- How a memo grows when a goal is expanded.
-use Rattle.std.specs.Prelude.{◌≡◌, ℕ, List, ◌++◌, Contains}
-use Rattle.star_model.specs.AskedGoals.{Asks}
+-- How a memo grows when a goal is expanded, and what it holds when a query's goal was.
+use Rattle.std.specs.Prelude.{◌≡◌, ℕ, List, ◌++◌, Contains, ◌↔◌}
+use Rattle.star_model.specs.AskedGoals.{Asks, AskedGoal}
 use Rattle.star_model.specs.declared.plans.Goal.{Goal}
 use Rattle.star_model.specs.declared.query.Query.{Query}
 use Rattle.star_model.specs.declared.rules.RuleFile.{RuleFile}
-use Rattle.table_set_memo.specs.Memos.{GoalSet}
+use Rattle.table_set_memo.specs.Memos.{GoalSet, IsHeld}
 
 module _ (q : Query) (rules : RuleFile) where
   -- the goal, those that it asks for, and those that these ask for
@@ -17,3 +17,7 @@ module _ (q : Query) (rules : RuleFile) where
     pub added : List GoalSet
     pub behind : new ≡ old ++ added
     pub asked : (s : GoalSet) → Contains added s → AskedFrom g.tables g.pushed s.0.tables s.0.pushed
+
+  -- the goals that the query asks for are held, and no others
+  abbrev pub HoldsQueryGoals : List GoalSet → Type 0
+  HoldsQueryGoals memo = (g : Goal) → IsHeld memo g ↔ AskedGoal q rules g.tables g.pushed

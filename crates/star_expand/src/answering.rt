@@ -7,6 +7,8 @@ ghost use Rattle.star_model.specs.WellFormed.{WellFormedQuery};
 ghost use Rattle.exchange.specs.Places.{IsBestOf};
 ghost use Rattle.plan_choice.specs.Choice.{IsChosen};
 ghost use Rattle.plan_choice.specs.FrontierLists.{IsFrontierList};
+ghost use Rattle.search_places.specs.Memos.{HoldsFrontiers};
+ghost use Rattle.star_expand.specs.Expanding.{HoldsQueryGoals};
 
 use crate::expanding::expand;
 use dominance_prune::PlanSet;
@@ -32,6 +34,18 @@ fn goal_of_query(query: &Query) -> Goal
     }
 }
 
+/// The sets of all goals that the query asks for, its own goal among them.
+pub fn expand_query(alloc: Global, rules: &CheckedRules, query: &Query) -> Result<Memo, AllocError>
+    requires { WellFormedQuery query.now }
+    ensures frontiers { IfOk result (HoldsFrontiers query.now rules.now) }
+    ensures goals { IfOk result (HoldsQueryGoals query.now rules.now) }
+{
+    rules.stands();
+    let mut memo = Memo::new(alloc);
+    expand(alloc, rules, query, goal_of_query(query), &mut memo)?;
+    Ok(memo)
+}
+
 // The best plans of the query's goal.
 fn plans_of_query(
     alloc: Global,
@@ -41,11 +55,8 @@ fn plans_of_query(
     requires { WellFormedQuery query.now }
     ensures { IfOk result (IsBestOf query.now rules.now (query_goal query.now)) }
 {
-    rules.stands();
-    let goal = goal_of_query(query);
-    let mut memo = Memo::new(alloc);
-    expand(alloc, rules, query, goal, &mut memo)?;
-    match memo.remove(&goal) {
+    let mut memo = expand_query(alloc, rules, query)?;
+    match memo.remove(&goal_of_query(query)) {
         Some(plans) => Ok(plans),
         None => unreachable!(),
     }

@@ -5,7 +5,7 @@ mod answering;
 mod expanding;
 pub mod theorems;
 
-pub use answering::{best, frontier};
+pub use answering::{best, expand_query, frontier};
 pub use asked_goals::closed;
 pub use expanding::expand;
 pub use plan_choice::choose;
