@@ -57,7 +57,7 @@ pub derivation_not : (command : Command) (r c q d : List ℕ) (refusal : Refusal
     → NotAnswered command (four r c q d) refusal
 derivation_not command r c q d Usage all p = absurd p
 derivation_not command r c q d (Unread line) all p = absurd p
-derivation_not command r c q d (Refused kind line) all p = rw p.0 (all.0, all.1.0, all.1.1.0, p.1 (three r c q))
+derivation_not command r c q d (Refused kind line) all p = rw p.0 (all.0, (all.1.0, (all.1.1.0, p.1 (three r c q))))
 derivation_not command r c q d (NotDerived line) all p = absurd p
 derivation_not command r c q d Memory all p = tt
 

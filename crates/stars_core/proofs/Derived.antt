@@ -131,7 +131,7 @@ done_ends : (command : Command) (given : List Given) (saying : Saying command) (
 done_ends commands.Check given rules text says answer = refl
 done_ends commands.Plan given saying text says answer = inl (refl, answer.0, answer.1, answer.2.root)
 done_ends commands.Frontier given saying text says answer =
-    inl (refl, some_listed saying.1 saying.0 says.formed says.of_rules.accepted answer.0 answer.1 answer.2)
+    let root = some_listed saying.1 saying.0 says.formed says.of_rules.accepted answer.0 answer.1 answer.2 in inl (refl, root.0, root.1, root.2)
 done_ends commands.Verify given saying text says answer = inl (refl, answer.1, answer.2)
 
 -- and where there is no plan
@@ -188,7 +188,7 @@ complete Memory words shelf shelf' out out' err err' answered command given sayi
 complete TableRefused words shelf shelf' out out' err err' answered command given saying told quiet_shelf quiet_out = absurd answered.2
 complete NotDerived words shelf shelf' out out' err err' answered command given saying told quiet_shelf quiet_out =
     let a = rw told.listed at answered.2 in
-    let held = rw told.told at a.2 in
+    let held = subst (λ (x : Option Files). HeldAs x (requests_of command words) a.1) told.told a.2 in
     inr (denied_ends command saying answered.1 (same_denial command told.files (requests_of command words) given a.1 saying answered.1 told.held held told.says a.4))
 complete DerivationRefused words shelf shelf' out out' err err' answered command given saying told quiet_shelf quiet_out =
     absurd (refused_told kinds.Derivation words shelf shelf' answered.1 command given saying told answered.2)
@@ -240,7 +240,8 @@ refused_exactly Memory words shelf shelf' out out' err err' answered place this 
 refused_exactly TableRefused words shelf shelf' out out' err err' answered place this earlier bytes line st quiet = absurd answered.2
 refused_exactly NotDerived words shelf shelf' out out' err err' answered place this earlier bytes line st quiet =
     let a = rw st.listed at answered.2 in
-    absurd (none_stops st.files [] (requests_of st.command words) a.1 place this earlier bytes line (rw st.told at a.2) a.3 st.here st.held st.bytes_held st.stops)
+    let held = subst (λ (x : Option Files). HeldAs x (requests_of st.command words) a.1) st.told a.2 in
+    absurd (none_stops st.files [] (requests_of st.command words) a.1 place this earlier bytes line held a.3 st.here st.held st.bytes_held st.stops)
 refused_exactly DerivationRefused words shelf shelf' out out' err err' answered place this earlier bytes line st quiet =
     inr (refused_same kinds.Derivation words shelf shelf' err err' place this earlier bytes line answered.1 st (rw st.listed at answered.2) answered.3)
 refused_exactly SessionRefused words shelf shelf' out out' err err' answered place this earlier bytes line st quiet = absurd answered.2

@@ -4,6 +4,7 @@ pub mod Along
 pub mod Causes
 mod Endings
 mod PlanTexts
+mod Verifying
 mod Comments
 pub mod Derived
 pub mod Says

@@ -1,10 +1,11 @@
 -- The text of a plan spells its derivation.
-use Rattle.std.proofs.Common.{◌≡◌, ◌≤◌, ◌<◌, ◌^◌, ◌++◌, ℕ, List, [], ◌∷◌, length, refl, arith, true}
+use Rattle.std.proofs.Common.{◌≡◌, ◌≤◌, ◌<◌, ◌^◌, ◌++◌, ℕ, List, [], ◌∷◌, length, refl, sym, subst, arith, true}
 use Rattle.std.specs.Prelude.{codes, decimal}
-use Rattle.std.specs.List.{AllPass}
-use Rattle.std.specs.Str.Parse.{AllDigits}
-use Rattle.std.proofs.lemmas.Fmt.{decimal_is_IsNumeral}
-use Rattle.star_model.specs.Derivations.{IsRoot}
+use Rattle.std.specs.List.{AllPass, list_all}
+use Rattle.std.proofs.lemmas.List.{append_assoc}
+use Rattle.std.proofs.lemmas.List.Elements.{All-append}
+use Rattle.std.proofs.lemmas.List.Sums.{AllPass-from_list_all}
+use Rattle.star_model.specs.Derivations.{IsRoot, IsLeast}
 use Rattle.star_model.specs.WellFormed.{WellFormedQuery}
 use Rattle.star_model.specs.declared.rules.RuleFile.{RuleFile}
 use Rattle.star_model.specs.declared.rules.StarDef.{StarDef}
@@ -18,7 +19,9 @@ use Rattle.spelling.specs.Derivations.{SpellsDerivation, canonical}
 use Rattle.spelling.specs.Rules.{SpellsRules, KeepsCounts, HasFewParts}
 use Rattle.spelling.specs.RuleLimits.{WellFormedRules, KeepsStarLimits}
 use Rattle.spelling.proofs.Laws.{plan_text_spells}
-use Rattle.stars_core.specs.Plan.{numbers}
+use Rattle.stars_core.specs.declared.status.Ending.TheVariants.{Done}
+use Rattle.stars_core.specs.Plan.{PlanText, numbers}
+use Rattle.stars_core.proofs.Comments.{decimal_in_comment}
 
 few_parts : (stars : List StarDef) → Every KeepsStarLimits stars → Every HasFewParts stars
 few_parts [] keeps = tt
@@ -28,3 +31,23 @@ few_parts (s ∷ stars) keeps =
 pub plan_spells : (q : QueryTree) (rules : RuleFile) → WellFormedQuery q → (tree : Deriv) (v : Props) → IsRoot q rules tree v → AllPass in_comment (numbers v)
     → (r : List ℕ) → SpellsRules r rules → WellFormedRules rules → SpellsDerivation (commented (numbers v) (canonical tree)) tree
 plan_spells q rules w tree v root line r spelled formed = plan_text_spells q rules w r spelled (few_parts rules.stars formed.limits) tree v root (numbers v) line
+
+pub numbers_in_comment : (v : Props) → v.cost < 2 ^ 64 → v.rescan < 2 ^ 64 → v.card < 2 ^ 64 → AllPass in_comment (numbers v)
+numbers_in_comment v a b c =
+    let cost : AllPass in_comment (codes " cost " ++ decimal v.cost) = both (codes " cost ") (decimal v.cost) (list_pass (codes " cost ") refl) (decimal_in_comment v.cost a) in
+    let rescan : AllPass in_comment (codes " rescan " ++ decimal v.rescan) = both (codes " rescan ") (decimal v.rescan) (list_pass (codes " rescan ") refl) (decimal_in_comment v.rescan b) in
+    let card : AllPass in_comment (codes " card " ++ decimal v.card) = both (codes " card ") (decimal v.card) (list_pass (codes " card ") refl) (decimal_in_comment v.card c) in
+    rw (sym (append_assoc (codes " cost ") (decimal v.cost) (codes " rescan " ++ decimal v.rescan ++ codes " card " ++ decimal v.card)))
+    (both (codes " cost " ++ decimal v.cost) (codes " rescan " ++ decimal v.rescan ++ codes " card " ++ decimal v.card) cost
+    (rw (sym (append_assoc (codes " rescan ") (decimal v.rescan) (codes " card " ++ decimal v.card))) (both (codes " rescan " ++ decimal v.rescan) (codes " card " ++ decimal v.card) rescan card)))
+  where
+    both : (xs ys : List ℕ) → AllPass in_comment xs → AllPass in_comment ys → AllPass in_comment (xs ++ ys)
+    both xs ys p q = All-append (λ b. in_comment b ≡ true) xs ys p q
+
+    list_pass : (xs : List ℕ) → list_all in_comment xs ≡ true → AllPass in_comment xs
+    list_pass xs e = AllPass-from_list_all in_comment xs e
+
+pub is_planned : (q : QueryTree) (rules : RuleFile) (tree : Deriv) (v : Props) (text : List ℕ) → WellFormedQuery q → IsLeast q rules tree v → AllPass in_comment (numbers v)
+    → text ≡ commented (numbers v) (canonical tree) → PlanText rules q Done text
+is_planned q rules tree v text w least line told =
+    (tree, v, least, told, λ r spelled formed. subst (λ (t : List ℕ). SpellsDerivation t tree) (sym told) (plan_spells q rules w tree v least.root line r spelled formed))

@@ -3,6 +3,7 @@ use Rattle.std.proofs.Common.{◌≡◌, ℕ, List, sym, subst}
 use Rattle.star_model.specs.declared.catalogue.Catalogue.{Catalogue as CatalogueTree}
 use Rattle.star_model.specs.declared.query.Query.{Query as QueryTree}
 use Rattle.star_model.specs.declared.rules.RuleFile.{RuleFile}
+use Rattle.star_model.specs.declared.derivations.Deriv.{Deriv}
 use Rattle.spelling.specs.Catalogues.{SpellsCatalogue}
 use Rattle.spelling.specs.Queries.{SpellsQuery}
 use Rattle.spelling.proofs.Laws.{one_rule_file, one_catalogue, one_query, keeps_catalogue, one_derivation}
@@ -29,24 +30,31 @@ says_case r c q rules catalogue query by over_text of =
       formed = of.read.formed;
     }
 
-one_case : (r c q : List ℕ) (a b : RuleFile × QueryTree) → SaysCase r c q a.0 a.1 → SaysCase r c q b.0 b.1 → a ≡ b
-one_case r c q (a, x) (b, y) p p' =
+one_case : (r c q : List ℕ) (a b : RuleFile) (x y : QueryTree) → SaysCase r c q a x → SaysCase r c q b y → (a ≡ b) × (x ≡ y)
+one_case r c q a b x y p p' =
     let catalogues : x.catalogue ≡ y.catalogue = one_catalogue c x.catalogue y.catalogue p.of_catalogue p'.of_catalogue in
     let of : SpellsQuery y.catalogue q x = subst (λ (k : CatalogueTree). SpellsQuery k q x) catalogues p.of_query in
-    let rules : a ≡ b = one_rule_file r a b p.of_rules.of_rules p'.of_rules.of_rules in
-    let queries : x ≡ y = one_query y.catalogue q x y of p'.of_query in cc
+    (one_rule_file r a b p.of_rules.of_rules p'.of_rules.of_rules, one_query y.catalogue q x y of p'.of_query)
 
-same_triple : {A B C : Type 0} (a b : A × B × C) → (a.0, a.1) ≡ (b.0, b.1) → a.2 ≡ b.2 → a ≡ b
-same_triple (x, y, z) (x', y', z') e f = cc
+same_pair : (a b : RuleFile × QueryTree) → (a.0 ≡ b.0) × (a.1 ≡ b.1) → a ≡ b
+same_pair (a, x) (b, y) e =
+    let first : a ≡ b = e.0 in
+    let second : x ≡ y = e.1 in cc
+
+same_three : (a b : RuleFile × QueryTree × Deriv) → (a.0 ≡ b.0) × (a.1 ≡ b.1) → a.2 ≡ b.2 → a ≡ b
+same_three (a, x, d) (b, y, e) p q =
+    let first : a ≡ b = p.0 in
+    let second : x ≡ y = p.1 in
+    let third : d ≡ e = q in cc
 
 -- texts say at most one thing to a command
 pub one_reading : (command : Command) (given : List Given) (a b : Saying command) → Says command given a → Says command given b → a ≡ b
 one_reading Check given a b p p' = one_rule_file (text_at given 0) a b p.of_rules p'.of_rules
-one_reading Plan given a b p p' = one_case (text_at given 0) (text_at given 1) (text_at given 2) a b p p'
-one_reading Frontier given a b p p' = one_case (text_at given 0) (text_at given 1) (text_at given 2) a b p p'
+one_reading Plan given a b p p' = same_pair a b (one_case (text_at given 0) (text_at given 1) (text_at given 2) a.0 b.0 a.1 b.1 p p')
+one_reading Frontier given a b p p' = same_pair a b (one_case (text_at given 0) (text_at given 1) (text_at given 2) a.0 b.0 a.1 b.1 p p')
 one_reading Verify given a b p p' =
-    let case : (a.0, a.1) ≡ (b.0, b.1) = one_case (text_at given 0) (text_at given 1) (text_at given 2) (a.0, a.1) (b.0, b.1) p.0 p'.0 in
-    let tree : a.2 ≡ b.2 = one_derivation (text_at given 3) a.2 b.2 p.1 p'.1 in same_triple a b case tree
+    same_three a b (one_case (text_at given 0) (text_at given 1) (text_at given 2) a.0 b.0 a.1 b.1 p.0 p'.0)
+    (one_derivation (text_at given 3) a.2 b.2 p.1 p'.1)
 
 -- the text of a plan spells its derivation
 pub spelled_plan : (r : List ℕ) (rules : RuleFile) (query : QueryTree) → SaysRules r rules → (ending : Ending) (text : List ℕ) → PlanText rules query ending text

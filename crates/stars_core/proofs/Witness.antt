@@ -34,6 +34,7 @@ use Rattle.stars_core.specs.declared.command.Command.TheVariants.{Plan}
 use Rattle.stars_core.specs.declared.status.Status.TheVariants.{Done}
 use Rattle.stars_core.specs.CommandLine.{CommandLine, command_of}
 use Rattle.stars_core.specs.Judging.{CataloguePasses, QueryPasses}
+use Rattle.stars_core.specs.Saying.{three}
 use Rattle.stars_core.specs.Answers.{Answered, DoneSays, SomeTold}
 use Rattle.stars_core.proofs.TinyRules.{tiny_text, tiny_passes}
 use Rattle.stars_core.proofs.Cases.{three_pass}

@@ -154,7 +154,10 @@ fn far_down_line(alloc: Global, node: u32) -> Result<String, AllocError>
     ensures { IfOk result (λ line. string_bytes line ≡ far_down_line node) }
 {
     let prefix = prefix(TextKind::Derivation);
-    format!(in alloc; "{prefix}node {node} is too far down\n")
+    let mut line = format!(in alloc; "{prefix}node {node}")?;
+    line.push_str(" is too far down")?;
+    line.push_str("\n")?;
+    Ok(line)
 }
 
 /// The line of a fault of a derivation's text. Want of memory is told as itself.
@@ -181,5 +184,7 @@ pub fn not_derived_line(alloc: Global, node: u32) -> Result<String, AllocError>
     ensures { IfOk result (λ line. string_bytes line ≡ not_derived_line node) }
 {
     let prefix = prefix(TextKind::Derivation);
-    format!(in alloc; "{prefix}not derived at node {node}\n")
+    let mut line = format!(in alloc; "{prefix}not derived at node {node}")?;
+    line.push_str("\n")?;
+    Ok(line)
 }

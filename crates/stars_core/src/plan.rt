@@ -1,11 +1,13 @@
 // The text of a least plan.
 ghost use Rattle.std.specs.Prelude.{◌≡◌, IfOk, string_bytes};
+ghost use Rattle.std.specs.List.{AllPass};
+ghost use Rattle.sb_text.specs.Front.{in_comment};
 ghost use Rattle.star_model.specs.WellFormed.{WellFormedQuery};
 ghost use Rattle.lolepop.specs.Derived.{vector_of};
 ghost use Rattle.spelling.specs.Derivations.{canonical};
 ghost use Rattle.spelling.specs.Layout.{commented};
 ghost use Rattle.stars_core.specs.Plan.{PlanText, numbers, no_plan};
-ghost use Rattle.stars_core.specs.declared.status.Ending.TheVariants.{Planned, Unplanned};
+ghost use Rattle.stars_core.specs.declared.status.Ending.TheVariants.{Done, NoPlan};
 
 use crate::{Answer, Ending};
 use derivation_print::print_derivation;
@@ -17,8 +19,10 @@ use star_model::query::Query;
 use std::alloc::{AllocError, Global};
 
 // The cost, the rescan cost and the cardinality of a plan, as they stand in a line.
+#[tactic(auto, using(crate::proofs::PlanTexts::numbers_in_comment))]
 pub fn numbers(alloc: Global, props: &Props) -> Result<String, AllocError>
-    ensures { IfOk result (λ text. string_bytes text ≡ numbers props.now) }
+    ensures text { IfOk result (λ text. string_bytes text ≡ numbers props.now) }
+    ensures comment { AllPass in_comment (numbers props.now) }
 {
     let cost = props.cost.get();
     let rescan = props.rescan.get();
@@ -33,7 +37,8 @@ pub fn numbers(alloc: Global, props: &Props) -> Result<String, AllocError>
 
 // The numbers of a plan in a comment, and its derivation.
 fn plan_text(alloc: Global, plan: &Best) -> Result<Vec<u8>, AllocError>
-    ensures { IfOk result (λ text. text.items ≡ commented (numbers (vector_of plan.now)) (canonical plan.now.deriv)) }
+    ensures text { IfOk result (λ text. text.items ≡ commented (numbers (vector_of plan.now)) (canonical plan.now.deriv)) }
+    ensures comment { AllPass in_comment (numbers (vector_of plan.now)) }
 {
     let numbers = numbers(alloc, plan.node.props())?;
     let derivation = print_derivation(alloc, &plan.deriv)?;
@@ -47,7 +52,7 @@ fn plan_text(alloc: Global, plan: &Best) -> Result<Vec<u8>, AllocError>
 
 /// The answer where the rules derive no plan.
 pub fn unplanned(alloc: Global) -> Result<Answer, AllocError>
-    ensures { IfOk result (λ answer. (answer.ending ≡ Unplanned) × (answer.text.items ≡ no_plan)) }
+    ensures { IfOk result (λ answer. (answer.ending ≡ NoPlan) × (answer.text.items ≡ no_plan)) }
 {
     let line = format!(in alloc; "no plan\n")?;
     Ok(Answer {
@@ -57,6 +62,7 @@ pub fn unplanned(alloc: Global) -> Result<Answer, AllocError>
 }
 
 /// How planning of a query by rules ends, and the text that tells it.
+#[tactic(auto, using(crate::proofs::PlanTexts::is_planned))]
 pub fn plan_query(alloc: Global, rules: &CheckedRules, query: &Query) -> Result<Answer, AllocError>
     requires { WellFormedQuery query.now }
     ensures { IfOk result (λ answer. PlanText rules.now query.now answer.ending answer.text.items) }

@@ -25,6 +25,7 @@ fn derived_line(alloc: Global, props: &Props) -> Result<String, AllocError>
 /// The numbers of a derivation's plan, or its first invalid node where it isn't one of the query by the rules.
 ///
 /// Nothing is searched: the derivation is judged node by node.
+#[tactic(auto, using(crate::proofs::Verifying::is_verified, crate::proofs::Verifying::is_not_derived))]
 pub fn verify_query(
     alloc: Global,
     rules: &CheckedRules,

@@ -1,0 +1,65 @@
+-- What a derivation is answered.
+use Rattle.std.proofs.Common.{◌≡◌, ◌≤◌, ◌<◌, ◌^◌, ℕ, List, [], ◌∷◌, length, Option, Some, Result, Ok, Err, refl, ap, sym, ◌∙◌, arith, string_bytes}
+use Rattle.sb_outside.specs.Shelf.{ShelfState}
+use Rattle.star_model.specs.Derivations.{IsRoot}
+use Rattle.star_model.specs.Expected.{ForQuery}
+use Rattle.star_model.specs.Judging.{Judgement, Vector, FirstInvalid, invalid_number, judge_root, node_count}
+use Rattle.star_model.specs.declared.rules.RuleFile.{RuleFile}
+use Rattle.star_model.specs.declared.query.Query.{Query as QueryTree}
+use Rattle.star_model.specs.declared.derivations.Deriv.{Deriv}
+use Rattle.star_model.specs.declared.plans.Props.{Props}
+use Rattle.star_model.proofs.Laws.{judges_root, judges_first}
+use Rattle.spelling.specs.Derivations.{SpellsDerivation}
+use Rattle.derivation_reading.proofs.Laws.{few_nodes}
+use Rattle.stars_core.specs.declared.answer.Answer.{Answer}
+use Rattle.stars_core.specs.declared.command.Command.TheVariants.{Verify}
+use Rattle.stars_core.specs.declared.refusal.Refusal.{Refusal}
+use Rattle.stars_core.specs.declared.refusal.Refusal.TheVariants.{Usage, Unread, Refused, NotDerived, Memory}
+use Rattle.stars_core.specs.declared.status.Ending.TheVariants.{Done}
+use Rattle.stars_core.specs.CommandLine.{four_requests}
+use Rattle.stars_core.specs.Lines.{not_derived_line}
+use Rattle.stars_core.specs.Judging.{DerivationPasses}
+use Rattle.stars_core.specs.Faults.{PassAll}
+use Rattle.stars_core.specs.Saying.{SaysCase, four}
+use Rattle.stars_core.specs.Judged.{AnswersOf}
+use Rattle.stars_core.specs.Shelves.{CameAlong, Ran}
+use Rattle.stars_core.specs.Verified.{Verified, VerifiedText, IsNotDerived, derived_line}
+
+-- a derivation that is read has few enough nodes
+pub small : (d : List ℕ) (tree : Deriv) → DerivationPasses d tree → node_count tree < 2 ^ 32
+small d tree pass = omega (arith, pass.size, few_nodes d tree pass.read.spells)
+
+pub is_verified : (rules : RuleFile) (query : QueryTree) (d : Deriv) (v : Props) (text : List ℕ) → judge_root query rules d ≡ Vector v → text ≡ derived_line v
+    → VerifiedText rules query d Done text
+is_verified rules query d v text judged told = (refl, v, (judges_root query rules d v).0 judged, told)
+
+pub is_not_derived : (rules : RuleFile) (query : QueryTree) (d : Deriv) (n : ℕ) (line : List ℕ) → judge_root query rules d ≡ FirstInvalid n → line ≡ not_derived_line n
+    → IsNotDerived rules query d line
+is_not_derived rules query d n line judged told = record {
+  no_root = λ v root. let e : FirstInvalid n ≡ Vector v = sym judged ∙ (judges_root query rules d v).1 root in cc;
+  node = n;
+  first = sym (judges_first query rules d ForQuery 1) ∙ ap invalid_number judged;
+  told = told;
+}
+
+module _ (r c q d : List ℕ) (rules : RuleFile) (query : QueryTree) (tree : Deriv) (says : SaysCase r c q rules query) (spells : SpellsDerivation d tree) where
+  -- of texts that were read
+  pub verified_ran : (before now : ShelfState) (rs cs qs ds : List ℕ) → CameAlong before now (four_requests rs cs qs ds) (four r c q d)
+      → (result : Result Answer Refusal) → Verified rules query tree result → Ran Verify before now (four_requests rs cs qs ds) result
+  verified_ran before now rs cs qs ds along (Ok answer) v =
+      (along.quiet, (four r c q d, along.held, along.accepted, record { saying = (rules, query, tree); says = (says, spells); answer = v }))
+  verified_ran before now rs cs qs ds along (Err (NotDerived line)) v =
+      (along.quiet, four r c q d, along.held, along.accepted, record { saying = (rules, query, tree); says = (says, spells); denied = v })
+  verified_ran before now rs cs qs ds along (Err Memory) v = tt
+  verified_ran before now rs cs qs ds along (Err Usage) v = absurd v
+  verified_ran before now rs cs qs ds along (Err (Unread line)) v = absurd v
+  verified_ran before now rs cs qs ds along (Err (Refused kind line)) v = absurd v
+
+  -- of texts that were given
+  pub verified_texts : PassAll [] (four r c q d) → (result : Result Answer Refusal) → Verified rules query tree result → AnswersOf Verify (four r c q d) result
+  verified_texts all (Ok answer) v = (all, record { saying = (rules, query, tree); says = (says, spells); answer = v })
+  verified_texts all (Err (NotDerived line)) v = (all, record { saying = (rules, query, tree); says = (says, spells); denied = v })
+  verified_texts all (Err Memory) v = tt
+  verified_texts all (Err Usage) v = absurd v
+  verified_texts all (Err (Unread line)) v = absurd v
+  verified_texts all (Err (Refused kind line)) v = absurd v

@@ -1,0 +1,25 @@
+use Rattle.std.proofs.lemmas.Result.{err_from_is_err_and}
+use Rattle.std.proofs.Common.{[]}
+use Rattle.stars_core.specs.declared.command.Command.TheVariants.{Plan}
+use Rattle.stars_core.specs.Saying.{three}
+use Rattle.stars_core.proofs.Says.{spelled_plan}
+use Rattle.stars_core.proofs.compose.plan.Goals as goal
+
+pub returns-in_err-case-clause-ran : goal.returns-in_err-case-clause-ran
+returns-in_err-case-clause-ran g c =
+    let p = err_from_is_err_and c.from_residual.result c.from_residual.ensures.1 in rw (p.1, p.2) (c.in_err-case.ensures.taken Plan [])
+
+pub plan_query-requires : goal.plan_query-requires
+plan_query-requires g c = c.in_ok-case.ensures.taken.4.formed
+
+pub returns-clause-ran : goal.returns-clause-ran
+returns-clause-ran g c =
+    let t = c.in_ok-case.ensures.taken in (
+      t.3.quiet,
+      (
+        three t.0 t.1 t.2,
+        t.3.held,
+        t.3.accepted,
+        record { saying = (c.in_ok-case.case.rules, c.in_ok-case.case.query); says = t.4; answer = spelled_plan t.0 c.in_ok-case.case.rules c.in_ok-case.case.query t.4.of_rules _ _ c.in_ok-answer.ensures },
+      ),
+    )
