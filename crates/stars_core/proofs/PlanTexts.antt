@@ -2,7 +2,6 @@
 use Rattle.std.proofs.Common.{◌≡◌, ◌≤◌, ◌<◌, ◌^◌, ◌++◌, ℕ, List, [], ◌∷◌, length, refl, sym, subst, arith, true}
 use Rattle.std.specs.Prelude.{codes, decimal}
 use Rattle.std.specs.List.{AllPass, list_all}
-use Rattle.std.proofs.lemmas.List.{append_assoc}
 use Rattle.std.proofs.lemmas.List.Elements.{All-append}
 use Rattle.std.proofs.lemmas.List.Sums.{AllPass-from_list_all}
 use Rattle.star_model.specs.Derivations.{IsRoot, IsLeast}
@@ -34,12 +33,9 @@ plan_spells q rules w tree v root line r spelled formed = plan_text_spells q rul
 
 pub numbers_in_comment : (v : Props) → v.cost < 2 ^ 64 → v.rescan < 2 ^ 64 → v.card < 2 ^ 64 → AllPass in_comment (numbers v)
 numbers_in_comment v a b c =
-    let cost : AllPass in_comment (codes " cost " ++ decimal v.cost) = both (codes " cost ") (decimal v.cost) (list_pass (codes " cost ") refl) (decimal_in_comment v.cost a) in
-    let rescan : AllPass in_comment (codes " rescan " ++ decimal v.rescan) = both (codes " rescan ") (decimal v.rescan) (list_pass (codes " rescan ") refl) (decimal_in_comment v.rescan b) in
-    let card : AllPass in_comment (codes " card " ++ decimal v.card) = both (codes " card ") (decimal v.card) (list_pass (codes " card ") refl) (decimal_in_comment v.card c) in
-    rw (sym (append_assoc (codes " cost ") (decimal v.cost) (codes " rescan " ++ decimal v.rescan ++ codes " card " ++ decimal v.card)))
-    (both (codes " cost " ++ decimal v.cost) (codes " rescan " ++ decimal v.rescan ++ codes " card " ++ decimal v.card) cost
-    (rw (sym (append_assoc (codes " rescan ") (decimal v.rescan) (codes " card " ++ decimal v.card))) (both (codes " rescan " ++ decimal v.rescan) (codes " card " ++ decimal v.card) rescan card)))
+    both (codes " cost ") _ (list_pass (codes " cost ") refl) (both (decimal v.cost) _ (decimal_in_comment v.cost a)
+    (both (codes " rescan ") _ (list_pass (codes " rescan ") refl) (both (decimal v.rescan) _ (decimal_in_comment v.rescan b)
+    (both (codes " card ") (decimal v.card) (list_pass (codes " card ") refl) (decimal_in_comment v.card c)))))
   where
     both : (xs ys : List ℕ) → AllPass in_comment xs → AllPass in_comment ys → AllPass in_comment (xs ++ ys)
     both xs ys p q = All-append (λ b. in_comment b ≡ true) xs ys p q

@@ -19,11 +19,11 @@ returns-in_err-derivation-clause-ran g c =
     c.in_err-derivation.ensures.goes c.args.rules.now c.args.catalogue.now c.args.query.now c.args.derivation.now t.0 t.1 t.2 t.3 Verify _
     c.in_err-derivation.ensures.taken)
 
-pub verify_query-requires-query : goal.verify_query-requires-query
-verify_query-requires-query g c = c.in_ok-case.ensures.taken.4.formed
+pub verify_query-requires-clause-query : goal.verify_query-requires-clause-query
+verify_query-requires-clause-query g c = c.in_ok-case.ensures.taken.4.formed
 
-pub verify_query-requires-size : goal.verify_query-requires-size
-verify_query-requires-size g c = let d = c.in_ok-derivation.ensures.taken in small d.1 c.in_ok-derivation.derivation d.3
+pub verify_query-requires-clause-size : goal.verify_query-requires-clause-size
+verify_query-requires-clause-size g c = let d = c.in_ok-derivation.ensures.taken in small d.1 c.in_ok-derivation.derivation d.3
 
 pub returns-clause-ran : goal.returns-clause-ran
 returns-clause-ran g c =

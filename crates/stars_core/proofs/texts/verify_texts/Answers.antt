@@ -16,11 +16,11 @@ returns-in_err-derivation c =
     let p = err_from_is_err_and c.from_residual-in_err-derivation.result c.from_residual-in_err-derivation.ensures.1 in
     rw (p.1, p.2) (derivation_not Verify c.args.rules.now c.args.catalogue.now c.args.query.now c.args.derivation.now _ c.in_ok-case.ensures.0 c.in_err-derivation.ensures)
 
-pub verify_query-requires-query : goal.verify_query-requires-query
-verify_query-requires-query c = c.in_ok-case.ensures.1.formed
+pub verify_query-requires-clause-query : goal.verify_query-requires-clause-query
+verify_query-requires-clause-query c = c.in_ok-case.ensures.1.formed
 
-pub verify_query-requires-size : goal.verify_query-requires-size
-verify_query-requires-size c = small c.args.derivation.now c.in_ok-derivation.derivation c.in_ok-derivation.ensures
+pub verify_query-requires-clause-size : goal.verify_query-requires-clause-size
+verify_query-requires-clause-size c = small c.args.derivation.now c.in_ok-derivation.derivation c.in_ok-derivation.ensures
 
 pub returns : goal.returns
 returns c =
