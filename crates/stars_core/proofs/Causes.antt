@@ -1,5 +1,5 @@
 -- The answer of the top call, from what the words made of the shelf.
-use Rattle.std.proofs.Common.{◌≡◌, [], ◌∷◌, Option, None, Some, Ok, Err, refl, subst, string_bytes}
+use Rattle.std.proofs.Common.{◌≡◌, [], ◌∷◌, Option, None, Some, Result, Ok, Err, arith, refl, subst, string_bytes}
 use Rattle.std.proofs.lemmas.List.{append-nil}
 use Rattle.sb_outside.specs.Counts.{Rose, RoseAtMost}
 use Rattle.sb_outside.specs.Shelf.{ShelfState}
@@ -14,7 +14,7 @@ use Rattle.stars_core.specs.declared.answer.Answer.{Answer}
 use Rattle.stars_core.specs.CommandLine.{CommandLine, command_of, requests_of}
 use Rattle.stars_core.specs.Lines.{status_of, line_of, cannot_write}
 use Rattle.stars_core.specs.Shelves.{Composed, IsAnswered}
-use Rattle.stars_core.specs.Answers.{Answered, Output, LinePut}
+use Rattle.stars_core.specs.Answers.{Answered, Output, LinePut, calls_of}
 
 -- nothing was put out
 pub answered_at : (words : CommandLine) (refusal : Refusal) (command : Option Command) (shelf shelf' : ShelfState) (out err err' : SinkState)
@@ -33,6 +33,12 @@ answered_at words (Refused Query line) (Some command) shelf shelf' out err err' 
 answered_at words (Refused Derivation line) (Some command) shelf shelf' out err err' is composed put = (refl, string_bytes line, rw is composed.1, put)
 answered_at words (NotDerived line) (Some command) shelf shelf' out err err' is composed put = (refl, string_bytes line, rw is composed.1, put)
 answered_at words Memory (Some command) shelf shelf' out err err' is composed put = (refl, line_of Memory, (rw is refl, refl), put)
+
+-- no more files are asked for than the command has
+pub calls_kept : (words : CommandLine) (command : Option Command) (shelf shelf' : ShelfState) (result : Result Answer Refusal)
+    → Composed shelf shelf' words command result → RoseAtMost (calls_of words command) shelf.calls shelf'.calls
+calls_kept words None shelf shelf' result composed = let same = composed.0 in rw same (record { kept = omega arith; bound = omega arith })
+calls_kept words (Some command) shelf shelf' result composed = let by = composed.0 in by.calls
 
 -- all was put out
 pub output_at : (ending : Ending) (words : CommandLine) (command : Option Command) (shelf shelf' : ShelfState) (out out' err : SinkState) (answer : Answer)

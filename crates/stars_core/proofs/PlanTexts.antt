@@ -33,8 +33,10 @@ plan_spells q rules w tree v root line r spelled formed = plan_text_spells q rul
 
 pub numbers_in_comment : (v : Props) → v.cost < 2 ^ 64 → v.rescan < 2 ^ 64 → v.card < 2 ^ 64 → AllPass in_comment (numbers v)
 numbers_in_comment v a b c =
-    both (codes " cost ") _ (list_pass (codes " cost ") refl) (both (decimal v.cost) _ (decimal_in_comment v.cost a)
-    (both (codes " rescan ") _ (list_pass (codes " rescan ") refl) (both (decimal v.rescan) _ (decimal_in_comment v.rescan b)
+    both (codes " cost ") (decimal v.cost ++ codes " rescan " ++ decimal v.rescan ++ codes " card " ++ decimal v.card) (list_pass (codes " cost ") refl)
+    (both (decimal v.cost) (codes " rescan " ++ decimal v.rescan ++ codes " card " ++ decimal v.card) (decimal_in_comment v.cost a)
+    (both (codes " rescan ") (decimal v.rescan ++ codes " card " ++ decimal v.card) (list_pass (codes " rescan ") refl)
+    (both (decimal v.rescan) (codes " card " ++ decimal v.card) (decimal_in_comment v.rescan b)
     (both (codes " card ") (decimal v.card) (list_pass (codes " card ") refl) (decimal_in_comment v.card c)))))
   where
     both : (xs ys : List ℕ) → AllPass in_comment xs → AllPass in_comment ys → AllPass in_comment (xs ++ ys)

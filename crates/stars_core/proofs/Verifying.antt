@@ -23,24 +23,32 @@ use Rattle.stars_core.specs.Faults.{PassAll}
 use Rattle.stars_core.specs.Saying.{SaysCase, four}
 use Rattle.stars_core.specs.Judged.{AnswersOf}
 use Rattle.stars_core.specs.Shelves.{CameAlong, Ran}
-use Rattle.stars_core.specs.Verified.{Verified, VerifiedText, IsNotDerived, derived_line}
+use Rattle.stars_core.specs.Verified.{Verified, IsNotDerived, Denies, derived_line}
 
 -- a derivation that is read has few enough nodes
 pub small : (d : List ℕ) (tree : Deriv) → DerivationPasses d tree → node_count tree < 2 ^ 32
 small d tree pass = omega (arith, pass.size, few_nodes d tree pass.read.spells)
 
-pub is_verified : (rules : RuleFile) (query : QueryTree) (d : Deriv) (v : Props) (text : List ℕ) → judge_root query rules d ≡ Vector v → text ≡ derived_line v
-    → VerifiedText rules query d Done text
-is_verified rules query d v text judged told = (refl, v, (judges_root query rules d v).0 judged, told)
+pub is_verified : (rules : RuleFile) (query : QueryTree) (d : Deriv) (v : Props) (answer : Answer) → judge_root query rules d ≡ Vector v
+    → (answer.ending ≡ Done) × (answer.text.items ≡ derived_line v) → Verified rules query d (Ok answer)
+is_verified rules query d v answer judged told = (told.0, v, (judges_root query rules d v).0 judged, told.1)
 
-pub is_not_derived : (rules : RuleFile) (query : QueryTree) (d : Deriv) (n : ℕ) (line : List ℕ) → judge_root query rules d ≡ FirstInvalid n → line ≡ not_derived_line n
+not_derived : (rules : RuleFile) (query : QueryTree) (d : Deriv) (n : ℕ) (line : List ℕ) → judge_root query rules d ≡ FirstInvalid n → line ≡ not_derived_line n
     → IsNotDerived rules query d line
-is_not_derived rules query d n line judged told = record {
+not_derived rules query d n line judged told = record {
   no_root = λ v root. let e : FirstInvalid n ≡ Vector v = sym judged ∙ (judges_root query rules d v).1 root in cc;
   node = n;
   first = sym (judges_first query rules d ForQuery 1) ∙ ap invalid_number judged;
   told = told;
 }
+
+pub is_denied : (rules : RuleFile) (query : QueryTree) (d : Deriv) (n : ℕ) (refusal : Refusal) → judge_root query rules d ≡ FirstInvalid n
+    → Denies (λ line. line ≡ not_derived_line n) refusal → Verified rules query d (Err refusal)
+is_denied rules query d n (NotDerived line) judged told = not_derived rules query d n (string_bytes line) judged told
+is_denied rules query d n Memory judged told = tt
+is_denied rules query d n Usage judged told = told
+is_denied rules query d n (Unread line) judged told = told
+is_denied rules query d n (Refused kind line) judged told = told
 
 module _ (r c q d : List ℕ) (rules : RuleFile) (query : QueryTree) (tree : Deriv) (says : SaysCase r c q rules query) (spells : SpellsDerivation d tree) where
   -- of texts that were read

@@ -29,11 +29,15 @@ pub record IsNotDerived (rules : RuleFile) (query : QueryTree) (d : Deriv) (line
   pub first : first_invalid query rules d ForQuery 1 ≡ Some node
   pub told : line ≡ not_derived_line node
 
+-- a denial whose line is as P says, or want of memory
+abbrev pub Denies : (List ℕ → Type 0) → Refusal → Type 0
+Denies P (NotDerived line) = P (string_bytes line)
+Denies P Memory = Unit {0}
+Denies P Usage = ⊥
+Denies P (Unread line) = ⊥
+Denies P (Refused kind line) = ⊥
+
 -- what the judgement answers
 abbrev pub Verified : RuleFile → QueryTree → Deriv → Result Answer Refusal → Type 0
 Verified rules query d (Ok answer) = VerifiedText rules query d answer.ending answer.text.items
-Verified rules query d (Err (NotDerived line)) = IsNotDerived rules query d (string_bytes line)
-Verified rules query d (Err Memory) = Unit {0}
-Verified rules query d (Err Usage) = ⊥
-Verified rules query d (Err (Unread line)) = ⊥
-Verified rules query d (Err (Refused kind line)) = ⊥
+Verified rules query d (Err refusal) = Denies (IsNotDerived rules query d) refusal

@@ -2,7 +2,9 @@
 ghost use Rattle.std.specs.Prelude.{◌≡◌, ◌<◌, ◌^◌, IfOk, string_bytes};
 ghost use Rattle.star_model.specs.Judging.{node_count};
 ghost use Rattle.star_model.specs.WellFormed.{WellFormedQuery};
-ghost use Rattle.stars_core.specs.Verified.{Verified, derived_line};
+ghost use Rattle.stars_core.specs.Verified.{Verified, Denies, derived_line};
+ghost use Rattle.stars_core.specs.Lines.{not_derived_line};
+ghost use Rattle.stars_core.specs.declared.status.Ending.TheVariants.{Done};
 
 use crate::lines::not_derived_line;
 use crate::plan::numbers;
@@ -22,10 +24,29 @@ fn derived_line(alloc: Global, props: &Props) -> Result<String, AllocError>
     format!(in alloc; "derived{numbers}\n")
 }
 
+fn verified(alloc: Global, props: &Props) -> Result<Answer, AllocError>
+    ensures { IfOk result (λ answer. (answer.ending ≡ Done) × (answer.text.items ≡ derived_line props.now)) }
+{
+    let line = derived_line(alloc, props)?;
+    Ok(Answer {
+        ending: Ending::Done,
+        text: line.into_bytes(),
+    })
+}
+
+fn denied(alloc: Global, node: u32) -> Refusal
+    ensures { Denies (λ line. line ≡ not_derived_line node) result }
+{
+    match not_derived_line(alloc, node) {
+        Ok(line) => Refusal::NotDerived(line),
+        Err(_) => Refusal::Memory,
+    }
+}
+
 /// The numbers of a derivation's plan, or its first invalid node where it isn't one of the query by the rules.
 ///
 /// Nothing is searched: the derivation is judged node by node.
-#[tactic(auto, using(crate::proofs::Verifying::is_verified, crate::proofs::Verifying::is_not_derived))]
+#[tactic(auto, using(crate::proofs::Verifying::is_verified, crate::proofs::Verifying::is_denied))]
 pub fn verify_query(
     alloc: Global,
     rules: &CheckedRules,
@@ -37,10 +58,7 @@ pub fn verify_query(
     ensures { Verified rules.now query.now derivation.now result }
 {
     match check_derivation(rules, query, derivation) {
-        Ok(props) => Ok(Answer {
-            ending: Ending::Done,
-            text: derived_line(alloc, &props)?.into_bytes(),
-        }),
-        Err(invalid) => Err(Refusal::NotDerived(not_derived_line(alloc, invalid.node)?)),
+        Ok(props) => Ok(verified(alloc, &props)?),
+        Err(invalid) => Err(denied(alloc, invalid.node)),
     }
 }

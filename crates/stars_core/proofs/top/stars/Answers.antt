@@ -4,7 +4,7 @@ use Rattle.stars_core.specs.declared.status.Ending.TheVariants as endings
 use Rattle.stars_core.specs.CommandLine.{bytes_of, command_of}
 use Rattle.stars_core.specs.Lines.{status_of}
 use Rattle.stars_core.proofs.Derived.{complete, refused_exactly}
-use Rattle.stars_core.proofs.Causes.{answered_at, output_at, part_at}
+use Rattle.stars_core.proofs.Causes.{answered_at, output_at, part_at, calls_kept}
 use Rattle.stars_core.proofs.top.stars.Goals as goal
 
 pub returns-in-Done-clause-answer : goal.returns-in-Done-clause-answer
@@ -69,3 +69,6 @@ returns-clause-complete g c =
     in
     rw c.status.ensures
     (complete (status_of c.in-Err.refusal) (bytes_of c.args.words.now) _ _ (g.O.Sink.state c.args.out.now) (g.O.Sink.state c.args.out.now) _ _ answered)
+
+pub returns-clause-calls : goal.returns-clause-calls
+returns-clause-calls g c = calls_kept (bytes_of c.args.words.now) (command_of (bytes_of c.args.words.now)) _ _ _ c.in-Err.ensures
