@@ -31,19 +31,27 @@ pub plan_spells : (q : QueryTree) (rules : RuleFile) → WellFormedQuery q → (
     → (r : List ℕ) → SpellsRules r rules → WellFormedRules rules → SpellsDerivation (commented (numbers v) (canonical tree)) tree
 plan_spells q rules w tree v root line r spelled formed = plan_text_spells q rules w r spelled (few_parts rules.stars formed.limits) tree v root (numbers v) line
 
+both : (xs ys : List ℕ) → AllPass in_comment xs → AllPass in_comment ys → AllPass in_comment (xs ++ ys)
+both xs ys p q = All-append (λ b. in_comment b ≡ true) xs ys p q
+
+all_six : (a b c d e f : List ℕ) → AllPass in_comment a → AllPass in_comment b → AllPass in_comment c → AllPass in_comment d → AllPass in_comment e → AllPass in_comment f
+    → AllPass in_comment (a ++ b ++ c ++ d ++ e ++ f)
+all_six a b c d e f p q r s t u =
+    let five : AllPass in_comment (e ++ f) = both e f t u in
+    let four : AllPass in_comment (d ++ (e ++ f)) = both d (e ++ f) s five in
+    let three : AllPass in_comment (c ++ (d ++ (e ++ f))) = both c (d ++ (e ++ f)) r four in
+    let two : AllPass in_comment (b ++ (c ++ (d ++ (e ++ f)))) = both b (c ++ (d ++ (e ++ f))) q three in
+    both a (b ++ (c ++ (d ++ (e ++ f)))) p two
+
+word_in_comment : (xs : List ℕ) → list_all in_comment xs ≡ true → AllPass in_comment xs
+word_in_comment xs e = AllPass-from_list_all in_comment xs e
+
 pub numbers_in_comment : (v : Props) → v.cost < 2 ^ 64 → v.rescan < 2 ^ 64 → v.card < 2 ^ 64 → AllPass in_comment (numbers v)
 numbers_in_comment v a b c =
-    both (codes " cost ") (decimal v.cost ++ codes " rescan " ++ decimal v.rescan ++ codes " card " ++ decimal v.card) (list_pass (codes " cost ") refl)
-    (both (decimal v.cost) (codes " rescan " ++ decimal v.rescan ++ codes " card " ++ decimal v.card) (decimal_in_comment v.cost a)
-    (both (codes " rescan ") (decimal v.rescan ++ codes " card " ++ decimal v.card) (list_pass (codes " rescan ") refl)
-    (both (decimal v.rescan) (codes " card " ++ decimal v.card) (decimal_in_comment v.rescan b)
-    (both (codes " card ") (decimal v.card) (list_pass (codes " card ") refl) (decimal_in_comment v.card c)))))
-  where
-    both : (xs ys : List ℕ) → AllPass in_comment xs → AllPass in_comment ys → AllPass in_comment (xs ++ ys)
-    both xs ys p q = All-append (λ b. in_comment b ≡ true) xs ys p q
-
-    list_pass : (xs : List ℕ) → list_all in_comment xs ≡ true → AllPass in_comment xs
-    list_pass xs e = AllPass-from_list_all in_comment xs e
+    all_six (codes " cost ") (decimal v.cost) (codes " rescan ") (decimal v.rescan) (codes " card ") (decimal v.card)
+    (word_in_comment (codes " cost ") refl) (decimal_in_comment v.cost a)
+    (word_in_comment (codes " rescan ") refl) (decimal_in_comment v.rescan b)
+    (word_in_comment (codes " card ") refl) (decimal_in_comment v.card c)
 
 pub is_planned : (q : QueryTree) (rules : RuleFile) (tree : Deriv) (v : Props) (text : List ℕ) → WellFormedQuery q → IsLeast q rules tree v → AllPass in_comment (numbers v)
     → text ≡ commented (numbers v) (canonical tree) → PlanText rules q Done text
