@@ -37,11 +37,7 @@ both xs ys p q = All-append (λ b. in_comment b ≡ true) xs ys p q
 all_six : (a b c d e f : List ℕ) → AllPass in_comment a → AllPass in_comment b → AllPass in_comment c → AllPass in_comment d → AllPass in_comment e → AllPass in_comment f
     → AllPass in_comment (a ++ b ++ c ++ d ++ e ++ f)
 all_six a b c d e f p q r s t u =
-    let five : AllPass in_comment (e ++ f) = both e f t u in
-    let four : AllPass in_comment (d ++ (e ++ f)) = both d (e ++ f) s five in
-    let three : AllPass in_comment (c ++ (d ++ (e ++ f))) = both c (d ++ (e ++ f)) r four in
-    let two : AllPass in_comment (b ++ (c ++ (d ++ (e ++ f)))) = both b (c ++ (d ++ (e ++ f))) q three in
-    both a (b ++ (c ++ (d ++ (e ++ f)))) p two
+    both (a ++ b ++ c ++ d ++ e) f (both (a ++ b ++ c ++ d) e (both (a ++ b ++ c) d (both (a ++ b) c (both a b p q) r) s) t) u
 
 word_in_comment : (xs : List ℕ) → list_all in_comment xs ≡ true → AllPass in_comment xs
 word_in_comment xs e = AllPass-from_list_all in_comment xs e
