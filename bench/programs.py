@@ -1,4 +1,5 @@
-"""Small programs over the crates as they stand here, for calls that no command makes. Each is proved and built in a folder of its own."""
+"""Programs for calls that no command makes: small ones over the crates as they stand here, each proved and built in a folder of its own,
+and those that are crates here."""
 import os
 import shutil
 import subprocess
@@ -40,3 +41,12 @@ def build(room, name, dependencies, program, files=()):
     if not os.access(path, os.X_OK):
         sys.exit(built.stdout + built.stderr)
     return path
+
+
+def own(name):
+    """Proves and builds a program that is a crate here, and returns its path. It is run once, on nothing."""
+    folder = f"{TOP}/crates/{name}"
+    built = subprocess.run(["rt", "run", "--jobs", "1"], cwd=folder, stdin=subprocess.DEVNULL, capture_output=True, text=True)
+    if built.returncode != 0:
+        sys.exit(built.stdout + built.stderr)
+    return f"{folder}/out/{name}"

@@ -6,6 +6,7 @@ use Rattle.std.proofs.lemmas.List.Elements.{All-append}
 use Rattle.std.proofs.lemmas.List.Sums.{AllPass-from_list_all}
 use Rattle.star_model.specs.Derivations.{IsRoot, IsLeast}
 use Rattle.star_model.specs.WellFormed.{WellFormedQuery}
+use Rattle.star_model.specs.Numbers.{top}
 use Rattle.star_model.specs.declared.rules.RuleFile.{RuleFile}
 use Rattle.star_model.specs.declared.rules.StarDef.{StarDef}
 use Rattle.star_model.specs.declared.query.Query.{Query as QueryTree}
@@ -19,7 +20,7 @@ use Rattle.spelling.specs.Rules.{SpellsRules, KeepsCounts, HasFewParts}
 use Rattle.spelling.specs.RuleLimits.{WellFormedRules, KeepsStarLimits}
 use Rattle.spelling.proofs.Laws.{plan_text_spells}
 use Rattle.stars_core.specs.declared.status.Ending.TheVariants.{Done}
-use Rattle.stars_core.specs.Plan.{PlanText, numbers}
+use Rattle.stars_core.specs.Plan.{PlanText, AreSmall, numbers}
 use Rattle.stars_core.proofs.Comments.{decimal_in_comment}
 
 few_parts : (stars : List StarDef) → Every KeepsStarLimits stars → Every HasFewParts stars
@@ -42,14 +43,20 @@ all_six a b c d e f p q r s t u =
 word_in_comment : (xs : List ℕ) → list_all in_comment xs ≡ true → AllPass in_comment xs
 word_in_comment xs e = AllPass-from_list_all in_comment xs e
 
-pub numbers_in_comment : (v : Props) → v.cost < 2 ^ 64 → v.rescan < 2 ^ 64 → v.card < 2 ^ 64 → AllPass in_comment (numbers v)
-numbers_in_comment v a b c =
+numbers_in_comment : (v : Props) → AreSmall v → AllPass in_comment (numbers v)
+numbers_in_comment v small =
+    let cost = small.cost in
+    let rescan = small.rescan in
+    let card = small.card in
     all_six (codes " cost ") (decimal v.cost) (codes " rescan ") (decimal v.rescan) (codes " card ") (decimal v.card)
-    (word_in_comment (codes " cost ") refl) (decimal_in_comment v.cost a)
-    (word_in_comment (codes " rescan ") refl) (decimal_in_comment v.rescan b)
-    (word_in_comment (codes " card ") refl) (decimal_in_comment v.card c)
+    (word_in_comment (codes " cost ") refl) (decimal_in_comment v.cost (omega arith))
+    (word_in_comment (codes " rescan ") refl) (decimal_in_comment v.rescan (omega arith))
+    (word_in_comment (codes " card ") refl) (decimal_in_comment v.card (omega arith))
 
-pub is_planned : (q : QueryTree) (rules : RuleFile) (tree : Deriv) (v : Props) (text : List ℕ) → WellFormedQuery q → IsLeast q rules tree v → AllPass in_comment (numbers v)
+pub are_small : (v : Props) → v.cost ≤ top → v.rescan ≤ top → v.card ≤ top → AreSmall v
+are_small v a b c = record { cost = a; rescan = b; card = c }
+
+pub is_planned : (q : QueryTree) (rules : RuleFile) (tree : Deriv) (v : Props) (text : List ℕ) → WellFormedQuery q → IsLeast q rules tree v → AreSmall v
     → text ≡ commented (numbers v) (canonical tree) → PlanText rules q Done text
-is_planned q rules tree v text w least line told =
-    (tree, v, least, told, λ r spelled formed. subst (λ (t : List ℕ). SpellsDerivation t tree) (sym told) (plan_spells q rules w tree v least.root line r spelled formed))
+is_planned q rules tree v text w least small told =
+    (tree, v, least, told, λ r spelled formed. subst (λ (t : List ℕ). SpellsDerivation t tree) (sym told) (plan_spells q rules w tree v least.root (numbers_in_comment v small) r spelled formed))

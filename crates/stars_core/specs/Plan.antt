@@ -1,7 +1,8 @@
 -- The text of a plan.
-use Rattle.std.specs.Prelude.{◌≡◌, ℕ, List, [], ◌∷◌, ◌++◌, codes}
+use Rattle.std.specs.Prelude.{◌≡◌, ◌≤◌, ℕ, List, [], ◌∷◌, ◌++◌, codes}
 use Rattle.std.specs.Fmt.{decimal}
 use Rattle.star_model.specs.Derivations.{IsRoot, IsLeast}
+use Rattle.star_model.specs.Numbers.{top}
 use Rattle.star_model.specs.declared.rules.RuleFile.{RuleFile}
 use Rattle.star_model.specs.declared.query.Query.{Query as QueryTree}
 use Rattle.star_model.specs.declared.derivations.Deriv.{Deriv}
@@ -19,6 +20,12 @@ numbers v = codes " cost " ++ decimal v.cost ++ codes " rescan " ++ decimal v.re
 
 abbrev pub no_plan : List ℕ
 no_plan = codes "no plan" ++ 10 ∷ []
+
+-- each of them is at most 10^18
+pub record AreSmall (v : Props) : Type 0 where
+  pub cost : v.cost ≤ top
+  pub rescan : v.rescan ≤ top
+  pub card : v.card ≤ top
 
 -- the rules derive no plan for the query
 abbrev pub HasNoPlan : RuleFile → QueryTree → Type 0

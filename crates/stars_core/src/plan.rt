@@ -1,12 +1,10 @@
 // The text of a least plan.
 ghost use Rattle.std.specs.Prelude.{◌≡◌, IfOk, string_bytes};
-ghost use Rattle.std.specs.List.{AllPass};
-ghost use Rattle.sb_text.specs.Front.{in_comment};
 ghost use Rattle.star_model.specs.WellFormed.{WellFormedQuery};
 ghost use Rattle.lolepop.specs.Derived.{vector_of};
 ghost use Rattle.spelling.specs.Derivations.{canonical};
 ghost use Rattle.spelling.specs.Layout.{commented};
-ghost use Rattle.stars_core.specs.Plan.{PlanText, numbers, no_plan};
+ghost use Rattle.stars_core.specs.Plan.{PlanText, AreSmall, numbers, no_plan};
 ghost use Rattle.stars_core.specs.declared.status.Ending.TheVariants.{Done, NoPlan};
 
 use crate::{Answer, Ending};
@@ -19,10 +17,8 @@ use star_model::query::Query;
 use std::alloc::{AllocError, Global};
 
 // The cost, the rescan cost and the cardinality of a plan, as they stand in a line.
-#[tactic(auto, using(crate::proofs::PlanTexts::numbers_in_comment))]
 pub fn numbers(alloc: Global, props: &Props) -> Result<String, AllocError>
-    ensures text { IfOk result (λ text. string_bytes text ≡ numbers props.now) }
-    ensures comment { AllPass in_comment (numbers props.now) }
+    ensures { IfOk result (λ text. string_bytes text ≡ numbers props.now) }
 {
     let cost = props.cost.get();
     let rescan = props.rescan.get();
@@ -35,10 +31,19 @@ pub fn numbers(alloc: Global, props: &Props) -> Result<String, AllocError>
     Ok(text)
 }
 
+// What the numbers of each vector keep.
+#[tactic(auto, using(crate::proofs::PlanTexts::are_small))]
+fn stands(props: &Props)
+    ensures { AreSmall props.now }
+{
+    let _ = props.cost.get();
+    let _ = props.rescan.get();
+    let _ = props.card.get();
+}
+
 // The numbers of a plan in a comment, and its derivation.
 fn plan_text(alloc: Global, plan: &Best) -> Result<Vec<u8>, AllocError>
-    ensures text { IfOk result (λ text. text.items ≡ commented (numbers (vector_of plan.now)) (canonical plan.now.deriv)) }
-    ensures comment { AllPass in_comment (numbers (vector_of plan.now)) }
+    ensures { IfOk result (λ text. text.items ≡ commented (numbers (vector_of plan.now)) (canonical plan.now.deriv)) }
 {
     let numbers = numbers(alloc, plan.node.props())?;
     let derivation = print_derivation(alloc, &plan.deriv)?;
@@ -67,11 +72,13 @@ pub fn plan_query(alloc: Global, rules: &CheckedRules, query: &Query) -> Result<
     requires { WellFormedQuery query.now }
     ensures { IfOk result (λ answer. PlanText rules.now query.now answer.ending answer.text.items) }
 {
-    match best(alloc, rules, query)? {
-        Some(plan) => Ok(Answer {
-            ending: Ending::Done,
-            text: plan_text(alloc, &plan)?,
-        }),
-        None => unplanned(alloc),
-    }
+    let Some(plan) = best(alloc, rules, query)? else {
+        return unplanned(alloc);
+    };
+    stands(plan.node.props());
+    let text = plan_text(alloc, &plan)?;
+    Ok(Answer {
+        ending: Ending::Done,
+        text,
+    })
 }

@@ -1,0 +1,37 @@
+// The calls by their names.
+ghost use Rattle.star_model.specs.WellFormed.{WellFormedQuery};
+
+use crate::asked::told_closed;
+use crate::expanded::{told_again, told_goals, told_moved};
+use crate::sets::{told_glue, told_offers, told_unshared};
+use star_check::CheckedRules;
+use star_model::query::Query;
+use std::alloc::{AllocError, Global};
+
+/// What came of the call with this name for the query's goal.
+pub fn told(
+    alloc: Global,
+    call: &str,
+    rules: &CheckedRules,
+    query: &Query,
+) -> Result<String, AllocError>
+    requires { WellFormedQuery query.now }
+{
+    if call == "expand_query" {
+        told_goals(alloc, rules, query)
+    } else if call == "expand" {
+        told_again(alloc, rules, query)
+    } else if call == "closed" {
+        told_closed(alloc, rules, query)
+    } else if call == "put" {
+        told_moved(alloc, rules, query)
+    } else if call == "unshare" {
+        told_unshared(alloc, rules, query)
+    } else if call == "glue" {
+        told_glue(alloc, rules, query)
+    } else if call == "offer" {
+        told_offers(alloc, rules, query)
+    } else {
+        String::from_str(alloc, "no such call")
+    }
+}
