@@ -31,11 +31,12 @@ pub fn numbers(alloc: Global, props: &Props) -> Result<String, AllocError>
     Ok(text)
 }
 
-// What the numbers of each vector keep.
+// What the numbers of each plan keep.
 #[tactic(auto, using(crate::proofs::PlanTexts::are_small))]
-fn stands(props: &Props)
-    ensures { AreSmall props.now }
+fn stands(plan: &Best)
+    ensures { AreSmall (vector_of plan.now) }
 {
+    let props = plan.node.props();
     let _ = props.cost.get();
     let _ = props.rescan.get();
     let _ = props.card.get();
@@ -67,7 +68,6 @@ pub fn unplanned(alloc: Global) -> Result<Answer, AllocError>
 }
 
 /// How planning of a query by rules ends, and the text that tells it.
-#[tactic(auto, using(crate::proofs::PlanTexts::is_planned))]
 pub fn plan_query(alloc: Global, rules: &CheckedRules, query: &Query) -> Result<Answer, AllocError>
     requires { WellFormedQuery query.now }
     ensures { IfOk result (λ answer. PlanText rules.now query.now answer.ending answer.text.items) }
@@ -75,7 +75,7 @@ pub fn plan_query(alloc: Global, rules: &CheckedRules, query: &Query) -> Result<
     let Some(plan) = best(alloc, rules, query)? else {
         return unplanned(alloc);
     };
-    stands(plan.node.props());
+    stands(&plan);
     let text = plan_text(alloc, &plan)?;
     Ok(Answer {
         ending: Ending::Done,
