@@ -15,6 +15,7 @@ use Rattle.stars_core.specs.declared.answer.Answer.{Answer}
 use Rattle.stars_core.specs.declared.command.Command.TheVariants.{Verify}
 use Rattle.stars_core.specs.declared.refusal.Refusal.{Refusal}
 use Rattle.stars_core.specs.declared.refusal.Refusal.TheVariants.{Usage, Unread, Refused, NotDerived, Memory}
+use Rattle.stars_core.specs.declared.status.Ending.{Ending}
 use Rattle.stars_core.specs.declared.status.Ending.TheVariants.{Done}
 use Rattle.stars_core.specs.CommandLine.{four_requests}
 use Rattle.stars_core.specs.Lines.{not_derived_line}
@@ -23,15 +24,15 @@ use Rattle.stars_core.specs.Faults.{PassAll}
 use Rattle.stars_core.specs.Saying.{SaysCase, four}
 use Rattle.stars_core.specs.Judged.{AnswersOf}
 use Rattle.stars_core.specs.Shelves.{CameAlong, Ran}
-use Rattle.stars_core.specs.Verified.{Verified, IsNotDerived, Denies, derived_line}
+use Rattle.stars_core.specs.Verified.{Verified, VerifiedText, IsNotDerived, Denies, derived_line}
 
 -- a derivation that is read has few enough nodes
 pub small : (d : List ℕ) (tree : Deriv) → DerivationPasses d tree → node_count tree < 2 ^ 32
 small d tree pass = omega (arith, pass.size, few_nodes d tree pass.read.spells)
 
-pub is_verified : (rules : RuleFile) (query : QueryTree) (d : Deriv) (v : Props) (answer : Answer) → judge_root query rules d ≡ Vector v
-    → (answer.ending ≡ Done) × (answer.text.items ≡ derived_line v) → Verified rules query d (Ok answer)
-is_verified rules query d v answer judged told = (told.0, v, (judges_root query rules d v).0 judged, told.1)
+pub is_verified : (rules : RuleFile) (query : QueryTree) (d : Deriv) (v : Props) (ending : Ending) (text : List ℕ) → judge_root query rules d ≡ Vector v
+    → (ending ≡ Done) × (text ≡ derived_line v) → VerifiedText rules query d ending text
+is_verified rules query d v ending text judged told = (told.0, v, (judges_root query rules d v).0 judged, told.1)
 
 not_derived : (rules : RuleFile) (query : QueryTree) (d : Deriv) (n : ℕ) (line : List ℕ) → judge_root query rules d ≡ FirstInvalid n → line ≡ not_derived_line n
     → IsNotDerived rules query d line

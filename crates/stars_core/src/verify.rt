@@ -46,7 +46,6 @@ fn denied(alloc: Global, node: u32) -> Refusal
 /// The numbers of a derivation's plan, or its first invalid node where it isn't one of the query by the rules.
 ///
 /// Nothing is searched: the derivation is judged node by node.
-#[tactic(auto, using(crate::proofs::Verifying::is_verified, crate::proofs::Verifying::is_denied))]
 pub fn verify_query(
     alloc: Global,
     rules: &CheckedRules,
