@@ -26,11 +26,7 @@ pub fn take_rules<S: Shelf>(
     judge_rules(alloc, text.as_slice())
 }
 
-fn take_catalogue<S: Shelf>(
-    alloc: Global,
-    shelf: &mut S,
-    name: &str,
-) -> Result<Catalogue, Refusal>
+fn take_catalogue<S: Shelf>(alloc: Global, shelf: &mut S, name: &str) -> Result<Catalogue, Refusal>
     ensures goes { Goes (S.state shelf.old) (S.state shelf.new) }
     ensures taken { Taken CataloguePasses (StopsAlways TextKind.Catalogue) (S.state shelf.old) (S.state shelf.new) (TextKind.Catalogue, name.now) result }
 {
@@ -53,11 +49,7 @@ fn take_query<S: Shelf>(
 }
 
 // The derivation of the file of this name.
-pub fn take_derivation<S: Shelf>(
-    alloc: Global,
-    shelf: &mut S,
-    name: &str,
-) -> Result<Deriv, Refusal>
+pub fn take_derivation<S: Shelf>(alloc: Global, shelf: &mut S, name: &str) -> Result<Deriv, Refusal>
     ensures goes { Goes (S.state shelf.old) (S.state shelf.new) }
     ensures taken { Taken DerivationPasses (StopsAlways TextKind.Derivation) (S.state shelf.old) (S.state shelf.new) (TextKind.Derivation, name.now) result }
 {

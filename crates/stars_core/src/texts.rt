@@ -13,12 +13,7 @@ use crate::{
 use std::alloc::Global;
 
 // What three texts say.
-fn judge_case(
-    alloc: Global,
-    rules: &[u8],
-    catalogue: &[u8],
-    query: &[u8],
-) -> Result<Case, Refusal>
+fn judge_case(alloc: Global, rules: &[u8], catalogue: &[u8], query: &[u8]) -> Result<Case, Refusal>
     ensures { CaseOf rules.now catalogue.now query.now result }
 {
     let rules = judge_rules(alloc, rules)?;
