@@ -1,7 +1,7 @@
 // Words that are no command, shelves and sinks that fail, statuses by their numbers, and the call over three texts.
 use crate::runs::{Faults, NO_FAULTS, run};
 use crate::texts::{DERIVATION, SELECTION, TABLE, TINY};
-use stars_core::{Answer, Command, Refusal, Status, answer_texts};
+use stars_core::{Answer, Refusal, Status, plan_texts};
 use std::alloc::{AllocError, Global};
 use std::test::Fail;
 
@@ -212,9 +212,8 @@ fn plans_three_texts(rt: HostRuntime) -> Result<(), Fail> {
         ),
     ];
     for (rules, catalogue, query, wanted) in rows {
-        let answer = answer_texts(
+        let answer = plan_texts(
             alloc,
-            Command::Plan,
             rules.as_bytes(),
             catalogue.as_bytes(),
             query.as_bytes(),

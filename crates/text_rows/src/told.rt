@@ -9,7 +9,7 @@ use star_model::catalogue::Catalogue;
 use star_model::num::Num;
 use star_model::query::Query;
 use star_model::sets::{PredSet, QuantSet};
-use stars_core::{Command, answer_texts, judge_catalogue, judge_query};
+use stars_core::{judge_catalogue, judge_query, plan_texts};
 use std::alloc::{AllocError, Global};
 
 /// The greatest length of a text in bytes.
@@ -124,7 +124,7 @@ pub fn differing_queries(alloc: Global, catalogue: &str, rows: &str) -> Result<S
 // The line with the numbers of the plan for all employees, or the line of the fault.
 fn told_rules(alloc: Global, rules: &[u8]) -> Result<String, AllocError> {
     let query = b"select e.id from emp e;";
-    match answer_texts(alloc, Command::Plan, rules, STAFF.as_bytes(), query) {
+    match plan_texts(alloc, rules, STAFF.as_bytes(), query) {
         Ok(answer) => {
             let text = String::from_utf8_lossy(alloc, answer.text.as_slice())?;
             String::from_str(alloc, text.as_str().lines().next().unwrap_or("no line"))
