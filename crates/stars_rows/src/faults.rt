@@ -174,9 +174,9 @@ fn numbers_statuses(rt: HostRuntime) {
 // How the planning of three texts ends, and its text or line.
 fn answered(alloc: Global, answer: Result<Answer, Refusal>) -> Result<String, AllocError> {
     match answer {
-        Ok(Answer { found, text }) => {
+        Ok(Answer { ending, text }) => {
             let text = String::from_utf8_lossy(alloc, text.as_slice())?;
-            format!(in alloc; "{found:?}: {text}")
+            format!(in alloc; "{ending:?}: {text}")
         }
         Err(refusal) => {
             let status = refusal.status();
@@ -189,7 +189,7 @@ fn answered(alloc: Global, answer: Result<Answer, Refusal>) -> Result<String, Al
 #[test]
 fn plans_three_texts(rt: HostRuntime) -> Result<(), Fail> {
     let alloc = rt.alloc();
-    let planned = format!(in alloc; "Planned: # cost 0 rescan 0 card 0\n{DERIVATION}")?;
+    let planned = format!(in alloc; "Done: # cost 0 rescan 0 card 0\n{DERIVATION}")?;
     let rows = [
         (TINY, TABLE, SELECTION, planned.as_str()),
         (
