@@ -22,3 +22,7 @@ mod Formed
 pub mod Laws
 mod Resolved
 mod SoFar
+mod CatalogueCanonical
+mod CatalogueLaws
+mod CatalogueWriting
+mod SmallestText

@@ -16,7 +16,8 @@ use Rattle.sb_text.specs.declared.token.Token.{Token}
 use Rattle.sb_text.specs.declared.token.TokenKind.{TokenKind}
 use Rattle.sb_text.specs.declared.token.TokenKind.TheVariants as kind
 use Rattle.sb_text.proofs.Laws.{fault_of-accepted}
-use Rattle.spelling.specs.Lexemes.{Lexeme, Word, Number, Text, Symbol, MaybeEnded, ended, said, lexeme_of, lexemes_of, statements_in, IsStatements, Every}
+use Rattle.spelling.specs.Lexemes.{Lexeme, Word, Number, Text, Symbol, MaybeEnded, ended, said, lexeme_of, lexemes_of, statements_in, IsStatements}
+use Rattle.star_model.specs.Every.{Every}
 use Rattle.spelling.specs.Cursors.{part_said, IsPartOf}
 use Rattle.spelling.proofs.Laws.{own_parts}
 

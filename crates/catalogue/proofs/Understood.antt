@@ -5,13 +5,14 @@ use Rattle.std.proofs.lemmas.Option.{some_pair_parts}
 use Rattle.star_model.specs.declared.catalogue.ColType.{ColType}
 use Rattle.star_model.specs.declared.catalogue.ColType.TheVariants as type
 use Rattle.star_model.specs.declared.catalogue.ColumnDef.{ColumnDef}
-use Rattle.spelling.specs.Lexemes.{Lexeme, Word, Number, MaybeEnded, ended, statements_in, comma, right_bracket, joined_by, HasItem, Every}
+use Rattle.spelling.specs.Lexemes.{Lexeme, Word, Number, MaybeEnded, ended, statements_in, comma, right_bracket, joined_by}
+use Rattle.star_model.specs.Every.{HasItem, Every}
 use Rattle.spelling.specs.Cursors.{part_said}
 use Rattle.spelling.specs.Firsts.{NoneFrom}
 use Rattle.spelling.specs.FirstsCases.{first_is_new, first_stays}
 use Rattle.spelling.specs.Syntax.{IsUnderstood, IsStrangeAt}
-use Rattle.spelling.specs.Catalogues.{CatalogueStatement, TablePart, IndexPart, column_lexemes, name_lexemes, catalogue_lexemes, type_word, HasColumns, SpellsCatalogueStatement}
-use Rattle.spelling.specs.Catalogues as statement
+use Rattle.catalogue.specs.Catalogues.{CatalogueStatement, column_lexemes, name_lexemes, catalogue_lexemes, type_word, HasColumns, SpellsCatalogueStatement}
+use Rattle.catalogue.specs.Catalogues as statement
 use Rattle.spelling.specs.Reading.{Reader, the_symbol, a_word}
 use Rattle.catalogue.specs.declared.words.ColumnWords.{ColumnWords}
 use Rattle.catalogue.specs.declared.words.StatementWords.{StatementWords}

@@ -14,3 +14,5 @@ mod Shallow
 mod ReadBack
 mod Verdicts
 pub mod Laws
+mod DerivationLaws
+mod DerivationWriting

@@ -1,7 +1,7 @@
 -- What the functions that read a statement answer.
 use Rattle.std.specs.Prelude.{◌≡◌, Option, Some, None, List, Result, Ok, Err}
 use Rattle.spelling.specs.Lexemes.{Lexeme, MaybeEnded}
-use Rattle.spelling.specs.Derivations.{Step}
+use Rattle.derivation_reading.specs.Derivations.{Step}
 use Rattle.derivation_reading.specs.Nodes.{said, SaysNode}
 use Rattle.derivation_reading.specs.declared.nodes.Node.{Node}
 use Rattle.derivation_reading.specs.declared.unread.Unread.{Unread}

@@ -3,7 +3,7 @@ use Rattle.std.proofs.Common.{◌≡◌, ℕ, List, Option, Some, Result, Ok, Er
 use Rattle.star_model.specs.declared.rules.Condition.{Condition}
 use Rattle.star_model.specs.declared.rules.PlanExpr.{PlanExpr}
 use Rattle.spelling.specs.Lexemes.{Lexeme}
-use Rattle.spelling.specs.StarReading.{when_at, body_at, conditional_body_at}
+use Rattle.rule_grammar.specs.StarReading.{when_at, body_at, conditional_body_at}
 use Rattle.rule_reading.specs.declared.unread.Unread.{Unread}
 use Rattle.rule_reading.specs.declared.unread.Unread.TheVariants.{Strange, Memory}
 use Rattle.rule_reading.specs.Answers.{Answers}

@@ -5,8 +5,8 @@ use denote.Ref.{Bor, MutBor}
 use Rattle.star_model.specs.declared.rules.ValueExpr.{ValueExpr}
 use Rattle.star_model.specs.declared.rules.Condition.{Condition}
 use Rattle.spelling.specs.Lexemes.{Lexeme}
-use Rattle.spelling.specs.ValueReading.{value_at}
-use Rattle.spelling.specs.ConditionReading.{condition_at}
+use Rattle.rule_grammar.specs.ValueReading.{value_at}
+use Rattle.rule_grammar.specs.ConditionReading.{condition_at}
 use Rattle.rule_reading.specs.declared.unread.Unread.{Unread}
 use Rattle.rule_reading.specs.Answers.{Answers}
 

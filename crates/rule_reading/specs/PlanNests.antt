@@ -4,7 +4,7 @@ use Rattle.std.specs.declared.alloc.Global.{Global}
 use denote.Ref.{Bor, MutBor}
 use Rattle.star_model.specs.declared.rules.PlanExpr.{PlanExpr}
 use Rattle.spelling.specs.Lexemes.{Lexeme}
-use Rattle.spelling.specs.PlanReading.{plan_at}
+use Rattle.rule_grammar.specs.PlanReading.{plan_at}
 use Rattle.rule_reading.specs.declared.unread.Unread.{Unread}
 use Rattle.rule_reading.specs.Answers.{Answers}
 

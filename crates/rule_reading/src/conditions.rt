@@ -1,5 +1,5 @@
 // Reading a condition.
-ghost use Rattle.spelling.specs.ConditionReading.{condition_at};
+ghost use Rattle.rule_grammar.specs.ConditionReading.{condition_at};
 ghost use Rattle.rule_reading.specs.Answers.{Answers};
 
 use crate::condition_rules::ConditionRules;

@@ -1,6 +1,6 @@
 // Reading the for-all clauses of alternatives.
 ghost use Rattle.std.specs.Prelude.{map};
-ghost use Rattle.spelling.specs.StarReading.{for_all_at, ranges_at};
+ghost use Rattle.rule_grammar.specs.StarReading.{for_all_at, ranges_at};
 ghost use Rattle.rule_reading.specs.Answers.{Answers};
 
 use crate::names::free_name;
@@ -13,7 +13,7 @@ use star_model::rules::{ForAll, Param};
 use std::alloc::Global;
 
 // A for-all clause, behind its first word.
-#[tactic(auto, unfolding(spelling::specs::StarReading::for_all_at))]
+#[tactic(auto, unfolding(rule_grammar::specs::StarReading::for_all_at))]
 fn for_all(
     alloc: Global,
     scope: &Scope<'_>,
@@ -29,7 +29,7 @@ fn for_all(
 }
 
 /// The for-all clauses of an alternative. The range of each sees the parameters, and the names of those before it.
-#[tactic(auto, unfolding(spelling::specs::StarReading::ranges_at))]
+#[tactic(auto, unfolding(rule_grammar::specs::StarReading::ranges_at))]
 pub fn ranges(
     alloc: Global,
     params: &[Param],

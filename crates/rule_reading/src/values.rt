@@ -1,5 +1,5 @@
 // Reading a value.
-ghost use Rattle.spelling.specs.ValueReading.{value_at};
+ghost use Rattle.rule_grammar.specs.ValueReading.{value_at};
 ghost use Rattle.rule_reading.specs.Answers.{Answers};
 
 use crate::scope::Scope;

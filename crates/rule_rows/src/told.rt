@@ -1,5 +1,5 @@
 // What is told of rule files, as text.
-ghost use Rattle.spelling.specs.RuleLimits.{WellFormedRules};
+ghost use Rattle.star_model.specs.WellFormedRules.{WellFormedRules};
 
 use crate::expanded::expanded;
 use star_check::check_rules;

@@ -1,10 +1,9 @@
 -- What the splits of a goal make.
-use Rattle.star_model.specs.Expected.{Expected}
+use Rattle.star_model.specs.Expected.{Expected, ForGoal, Call, may_split}
 use Rattle.std.proofs.Common.{◌≡◌, ℕ, ◌<◌, ◌^◌, true, false, nat_eq, List, [], ◌∷◌, ◌++◌, Result, Ok, Err, OnOk, Option, Some, None, refl, ap, sym, ◌∙◌, subst, arith}
 use Rattle.std.specs.Prelude.{Contains}
 use Rattle.std.proofs.lemmas.List.Elements.{Contains-append_right}
 use Rattle.std.proofs.lemmas.Bool.{ne_eqb}
-use Rattle.star_model.specs.Expected.{ForGoal, Call, may_split}
 use Rattle.star_model.specs.Sets.{size, splits}
 use Rattle.star_model.specs.declared.plans.Goal.{Goal}
 use Rattle.star_model.specs.declared.query.Query.{Query}

@@ -13,11 +13,13 @@ use Rattle.star_model.specs.declared.rules.Alternative.{Alternative}
 use Rattle.star_model.specs.declared.rules.FormulaDef.{FormulaDef}
 use Rattle.star_model.specs.declared.rules.StarDef.{StarDef}
 use Rattle.spelling.specs.Firsts.{NoneFrom}
-use Rattle.spelling.specs.Lexemes.{Lexeme, Word, Number, Text, Symbol, Every}
+use Rattle.spelling.specs.Lexemes.{Lexeme, Word, Number, Text, Symbol}
+use Rattle.star_model.specs.Every.{Every}
 use Rattle.spelling.specs.Limits.{HasGreatNumber, HasLongWord}
-use Rattle.spelling.specs.Rules.{Definition, OfFormula, OfStar, SpellsDefinitions}
-use Rattle.spelling.specs.Rules as spec
-use Rattle.spelling.specs.RuleLimits.{RuleStatement, AreSpelled, nesting, count_of_stars, is_star, Beyond, IsBeyond}
+use Rattle.rule_grammar.specs.Rules.{Definition, OfFormula, OfStar, SpellsDefinitions}
+use Rattle.rule_grammar.specs.Rules as spec
+use Rattle.rule_grammar.specs.RuleLimits.{RuleStatement, AreSpelled, count_of_stars, is_star, Beyond, IsBeyond}
+use Rattle.star_model.specs.WellFormedRules.{nesting}
 
 left : (a b : Bool) → (a && b) ≡ true → a ≡ true
 left true b h = refl

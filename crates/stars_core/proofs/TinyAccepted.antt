@@ -13,7 +13,7 @@ use Rattle.star_model.specs.declared.rules.Flavour.{Flavour}
 use Rattle.star_model.specs.declared.rules.Flavour.TheVariants as flavour
 use Rattle.star_model.specs.declared.faults.Root.{Root}
 use Rattle.star_model.specs.declared.faults.Root.TheVariants as root
-use Rattle.spelling.specs.Tiny.{tiny_rules}
+use Rattle.rule_grammar.specs.Tiny.{tiny_rules}
 
 -- where a test passes at no item, it passes at none that the list contains, and at none that is found in it
 first : (b c : Bool) → (not b && c) ≡ true → b ≡ true → ⊥

@@ -1,20 +1,19 @@
 -- The smallest rule file, read and accepted.
-use Rattle.std.proofs.Common.{◌≡◌, ◌≤◌, ℕ, List, [], ◌∷◌, ◌++◌, true, None, Ok, zero, suc, refl, ap, sym, ◌∙◌, subst, inl, inr, length, map, codes, arith}
-use Rattle.std.specs.Prelude.{Contains}
+use Rattle.std.proofs.Common.{◌≡◌, ◌≤◌, ℕ, List, [], ◌∷◌, ◌++◌, true, None, Ok, refl, ap, sym, ◌∙◌, subst, length, map, codes, arith}
 use Rattle.std.specs.List.{list_all}
 use Rattle.std.proofs.lemmas.List.{length-map}
 use Rattle.sb_text.specs.Refusal.{fault_of}
 use Rattle.sb_text.specs.Tokens.{lexed, lexed_after}
 use Rattle.star_model.specs.Monotone.{nodes}
-use Rattle.star_model.specs.declared.rules.StarDef.{StarDef}
 use Rattle.spelling.specs.Firsts.{NoneHas}
 use Rattle.spelling.specs.Lexemes.{Lexeme, MaybeEnded, IsStatements, ended, statements_in}
-use Rattle.spelling.specs.Rules.{SpellsRules}
-use Rattle.spelling.specs.RuleLimits.{RuleStatement, SaysRules, IsBeyond, nesting}
-use Rattle.spelling.specs.Tiny.{tiny_lexemes, tiny_rules}
-use Rattle.spelling.proofs.Laws.{tiny_is_spelled}
+use Rattle.rule_grammar.specs.Rules.{SpellsRules}
+use Rattle.rule_grammar.specs.RuleLimits.{RuleStatement, SaysRules, IsBeyond}
+use Rattle.star_model.specs.WellFormedRules.{nesting}
+use Rattle.rule_grammar.specs.Tiny.{tiny_lexemes, tiny_rules}
+use Rattle.rule_grammar.proofs.Laws.{tiny_is_spelled}
 use Rattle.star_syntax.specs.Faults.{ReadsRules}
-use Rattle.star_syntax.proofs.Laws.{no_fault, rules_formed}
+use Rattle.star_syntax.proofs.Laws.{no_fault, rules_formed, rules_fit}
 use Rattle.stars_core.specs.Judging.{RulesPass}
 use Rattle.stars_core.proofs.LimitsKept.{lexemes_fit, formula_fits, star_fits, Statements, statements_of, none_beyond}
 use Rattle.stars_core.proofs.TinyAccepted.{tiny_accepted}
@@ -84,7 +83,7 @@ within =
     none_beyond [] statements.0 (omega (arith, count, ten)) statements.3
 
 tiny_read : ReadsRules tiny_text (Ok tiny_rules)
-tiny_read = record { spells = spells; formed = rules_formed tiny_text tiny_rules statements.0 spells says within; clear = no_fault tiny_text statements.0 no_text_fault says within }
+tiny_read = record { spells = spells; formed = rules_formed tiny_text tiny_rules statements.0 spells says within; fits = rules_fit tiny_text tiny_rules statements.0 spells says within; clear = no_fault tiny_text statements.0 no_text_fault says within }
 
 tiny_length : length tiny_text ≤ 1048576
 unfolding tiny_text

@@ -20,9 +20,9 @@ use Rattle.star_model.specs.declared.faults.LimitKind.TheVariants as limit
 use Rattle.spelling.specs.Lexemes.{statements_in}
 use Rattle.spelling.specs.Firsts.{NoneHas}
 use Rattle.spelling.specs.Limits.{HasGreatNumber, HasLongWord}
-use Rattle.spelling.specs.Catalogues.{TablePart, CatalogueStatement, Site, Table, catalogue_lexemes, table_from, catalogue_of}
-use Rattle.spelling.specs.Queries.{QueryStatement, only_column, query_lexemes, query_of}
-use Rattle.spelling.specs.Tiny.{tiny_rules}
+use Rattle.catalogue.specs.Catalogues.{TablePart, CatalogueStatement, Site, Table, catalogue_lexemes, table_from, catalogue_of}
+use Rattle.query_graph.specs.Queries.{QueryStatement, only_column, query_lexemes, query_of}
+use Rattle.rule_grammar.specs.Tiny.{tiny_rules}
 use Rattle.catalogue.specs.Defined.{NamesUnknown, DefinesTwice}
 use Rattle.catalogue.specs.Beyond.{Beyond, IsBeyond, IsFileName}
 use Rattle.catalogue.specs.Faults.{SaysStatements}
@@ -30,7 +30,6 @@ use Rattle.catalogue.proofs.Laws.{no_fault, formed}
 use Rattle.query_graph.specs.Faults as queries
 use Rattle.query_graph.proofs.Laws.{accepted_query}
 use Rattle.stars_core.specs.declared.command.Command.{Command}
-use Rattle.stars_core.specs.declared.command.Command.TheVariants.{Plan}
 use Rattle.stars_core.specs.declared.status.Status.TheVariants.{Done}
 use Rattle.stars_core.specs.CommandLine.{CommandLine, command_of}
 use Rattle.stars_core.specs.Judging.{CataloguePasses, QueryPasses}

@@ -1,7 +1,7 @@
 use Rattle.std.proofs.Common.{◌≡◌, Some, None, rules}
 use Rattle.std.proofs.lemmas.Result.{err_from_is_err_and}
 use Rattle.spelling.specs.Lexemes.{comma}
-use Rattle.spelling.specs.Catalogues.{name_lexemes}
+use Rattle.catalogue.specs.Catalogues.{name_lexemes}
 use Rattle.spelling.specs.Reading.{a_word}
 use Rattle.spelling.specs.SeriesReadingCases.{begun, stopped}
 use Rattle.spelling.specs.SeriesLoopCases.{ends, goes}

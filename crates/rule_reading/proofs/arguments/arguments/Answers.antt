@@ -1,5 +1,5 @@
 use Rattle.std.proofs.lemmas.Result.{err_from_is_err_and}
-use Rattle.spelling.specs.PlanReading.{arguments_at}
+use Rattle.rule_grammar.specs.PlanReading.{arguments_at}
 use Rattle.rule_reading.proofs.Loops.{stops, ends, goes, falls}
 use Rattle.rule_reading.proofs.Parts.{value_is, commas}
 use Rattle.rule_reading.proofs.arguments.arguments.Goals as goal
