@@ -1,9 +1,13 @@
 -- Written by tools/worked_texts.
 use Rattle.std.proofs.Common.{refl, arith}
 use Rattle.spelling.specs.Lexemes.{statements_in}
-use Rattle.sb_text.specs.Tokens.{lexed, lexed_after}
-use Rattle.star_model.specs.Sets.{members, has, places}
-use Rattle.derivation_reading.specs.Derivations.{steps, HasInputs}
+use Rattle.sb_text.specs.Tokens.{lexed}
+use Rattle.sb_text.specs.Tokens.{lexed_after}
+use Rattle.star_model.specs.Sets.{members}
+use Rattle.star_model.specs.Sets.{has}
+use Rattle.star_model.specs.Sets.{places}
+use Rattle.derivation_reading.specs.Derivations.{steps}
+use Rattle.derivation_reading.specs.Derivations.{HasInputs}
 use Rattle.worked_texts.proofs.texts.derivation_shipped_then_sorted.Goals as goal
 
 pub returns : goal.returns

@@ -1,7 +1,8 @@
 -- Written by tools/worked_texts.
 use Rattle.std.proofs.Common.{refl, [], ◌∷◌, None, codes}
 use Rattle.spelling.specs.Lexemes.{statements_in}
-use Rattle.sb_text.specs.Tokens.{lexed, lexed_after}
+use Rattle.sb_text.specs.Tokens.{lexed}
+use Rattle.sb_text.specs.Tokens.{lexed_after}
 use Rattle.query_graph.specs.Queries.{query_of}
 use Rattle.worked_texts.proofs.texts.query_t.Goals as goal
 
