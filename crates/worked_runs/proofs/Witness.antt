@@ -1,14 +1,11 @@
 -- Some files of which the clauses speak, and what a run that is done says.
-use Rattle.std.proofs.Common.{◌≡◌, inl, inr, ℕ, List, [], ◌∷◌, false, if◌then◌else◌, Option, None, Some, refl, subst, arith, codes, zero, suc}
+use Rattle.std.proofs.Common.{◌≡◌, inl, inr, ℕ, List, [], ◌∷◌, false, if◌then◌else◌, None, Some, refl, arith, codes, zero, suc}
 use Rattle.std.specs.Prelude.{IsTrue}
 use Rattle.std.specs.Str.{bytes_eq, IsAscii}
-use Rattle.std.specs.List.{concat}
-use Rattle.std.proofs.lemmas.List.{append-nil}
 use Rattle.std.proofs.lemmas.Str.{IsUtf8-from_ascii}
 use Rattle.sb_text.specs.Tokens.{lexed, lexed_after}
 use Rattle.sb_text.specs.Refusal.{fault_of}
 use Rattle.sb_outside.specs.Shelf.{Files, ShelfState}
-use Rattle.sb_outside.specs.Sink.{SinkState, Adds}
 use Rattle.star_model.specs.WellFormed.{WellFormedQuery}
 use Rattle.star_model.specs.declared.catalogue.Catalogue.{Catalogue as CatalogueTree}
 use Rattle.star_model.specs.declared.catalogue.SiteDef.{SiteDef}
@@ -29,26 +26,12 @@ use Rattle.catalogue.specs.Faults.{SaysStatements}
 use Rattle.catalogue.proofs.Laws.{no_fault, formed}
 use Rattle.query_graph.specs.Faults as queries
 use Rattle.query_graph.proofs.Laws.{accepted_query}
-use Rattle.stars_core.specs.declared.command.Command.{Command}
-use Rattle.stars_core.specs.declared.status.Status.TheVariants.{Done}
-use Rattle.stars_core.specs.CommandLine.{CommandLine, command_of}
+use Rattle.stars_core.specs.CommandLine.{CommandLine}
 use Rattle.stars_core.specs.Judging.{CataloguePasses, QueryPasses}
 use Rattle.stars_core.specs.Saying.{three}
-use Rattle.stars_core.specs.Answers.{Answered, DoneSays, SomeTold}
-use Rattle.stars_core.proofs.TinyRules.{tiny_text, tiny_passes}
-use Rattle.stars_core.proofs.Cases.{three_pass}
-use Rattle.stars_core.proofs.Says.{says_case}
-
-pub done_says : (words : CommandLine) (shelf shelf' : ShelfState) (out out' err err' : SinkState) → Answered Done words shelf shelf' out out' err err' → DoneSays words out out'
-done_says words shelf shelf' out out' err err' answered = at_command (command_of words) refl answered
-  where
-    at_command : (command : Option Command) → command_of words ≡ command → Answered Done words shelf shelf' out out' err err' → DoneSays words out out'
-    at_command None is a = absurd (rw is at a)
-    at_command (Some command) is a =
-        let b = rw is at a in
-        let answer = b.2.1 in
-        let added = subst (λ (ps : List (List ℕ)). Adds out.taken (concat ps) out'.taken) b.2.2 b.3.added in
-        rw is (answer.0, b.2.0, answer.3, rw append-nil at added)
+use Rattle.worked_runs.specs.SomeTold.{SomeTold}
+use Rattle.worked_runs.proofs.TinyRules.{tiny_text, tiny_passes}
+use Rattle.stars_core.proofs.Laws.{three_pass, says_case}
 
 -- ---- three texts
 

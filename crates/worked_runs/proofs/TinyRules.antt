@@ -15,8 +15,8 @@ use Rattle.rule_grammar.proofs.Laws.{tiny_is_spelled}
 use Rattle.star_syntax.specs.Faults.{ReadsRules}
 use Rattle.star_syntax.proofs.Laws.{no_fault, rules_formed, rules_fit}
 use Rattle.stars_core.specs.Judging.{RulesPass}
-use Rattle.stars_core.proofs.LimitsKept.{lexemes_fit, formula_fits, star_fits, Statements, statements_of, none_beyond}
-use Rattle.stars_core.proofs.TinyAccepted.{tiny_accepted}
+use Rattle.worked_runs.proofs.LimitsKept.{lexemes_fit, formula_fits, star_fits, Statements, statements_of, none_beyond}
+use Rattle.worked_runs.proofs.TinyAccepted.{tiny_accepted}
 
 -- a heap access for each table, with the costs of the operators of Glue
 pub tiny_text : List ℕ
