@@ -13,7 +13,6 @@ mod resolve;
 mod statement;
 pub mod theorems;
 mod types;
-mod unread;
 pub mod words;
 
 pub use fault::QueryFault;

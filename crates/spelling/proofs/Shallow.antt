@@ -19,23 +19,8 @@ use Rattle.sb_text.proofs.Laws.{fault_of-accepted}
 use Rattle.spelling.specs.Lexemes.{Lexeme, Word, Number, Text, Symbol, MaybeEnded, ended, said, lexeme_of, lexemes_of, statements_in, IsStatements}
 use Rattle.star_model.specs.Every.{Every}
 use Rattle.spelling.specs.Cursors.{part_said, IsPartOf}
-use Rattle.spelling.proofs.Laws.{own_parts}
-
--- ---- which lexemes open a bracket
-
-abbrev opens_with : ℕ → Bool
-opens_with b = b == 40 || b == 91 || b == 123
-
-abbrev opens : Lexeme → Bool
-opens (Symbol (b ∷ rest)) = opens_with b
-opens (Symbol []) = false
-opens (Word bytes) = false
-opens (Number n) = false
-opens (Text bytes) = false
-
-abbrev pub count_opens : List Lexeme → ℕ
-count_opens [] = 0
-count_opens (x ∷ xs) = (if opens x then 1 else 0) + count_opens xs
+use Rattle.spelling.specs.Shallow.{opens_with, opens, count_opens, IsShallow}
+use Rattle.spelling.proofs.Cut.{own_parts}
 
 -- the three bytes that open a bracket
 opening : (P : ℕ → Type 0) (b : ℕ) → opens_with b ≡ true → P 40 → P 91 → P 123 → P b
@@ -105,13 +90,7 @@ opens_counted source (t ∷ ts) every = omega (arith, one (is_open t) (opens (le
     one true false so = let e = so refl in absurd cc
     one false b so = omega arith
 
--- ---- all statements
-
-pub record IsShallow (statement : List Lexeme) : Type 0 where
-  pub short : length statement ≤ 4096
-  pub few : count_opens statement ≤ 32
-
-record ArePartsShallow (list : List Part) : Type 0 where
+-record ArePartsShallow (list : List Part) : Type 0 where
   short : All (λ (part : Part). length (tokens_of part) ≤ 4096) list
   shallow : All (λ (part : Part). greatest_depth 0 (tokens_of part) ≤ 32) list
 

@@ -1,8 +1,8 @@
 -- What the functions answer that read a part of a statement.
 use Rattle.std.specs.Prelude.{◌≡◌, List, Option, Some, None, Result, Ok, Err}
 use Rattle.spelling.specs.Lexemes.{Lexeme}
-use Rattle.rule_reading.specs.declared.unread.Unread.{Unread}
-use Rattle.rule_reading.specs.declared.unread.Unread.TheVariants.{Strange, Memory}
+use Rattle.spelling.specs.declared.unread.Unread.{Unread}
+use Rattle.spelling.specs.declared.unread.Unread.TheVariants.{Strange, Memory}
 
 -- what was read, where it is there; want of memory may come at any lexemes
 abbrev pub Answers : {A : Type 0} → Option (A × List Lexeme) → Result A Unread → List Lexeme → Type 0

@@ -1,6 +1,6 @@
 // Why a part of a statement isn't read.
 ghost use Rattle.std.specs.Prelude.{◌≡◌};
-ghost use Rattle.rule_reading.specs.declared.unread.Unread.TheVariants.{Memory};
+ghost use Rattle.spelling.specs.declared.unread.Unread.TheVariants.{Memory};
 
 use std::alloc::AllocError;
 
