@@ -8,8 +8,8 @@ use crate::nodes::Node;
 use crate::places::Places;
 use crate::statement::read_node;
 use sb_text::{Token, statements};
-use sqlite_items::Items;
 use spelling::Unread;
+use sqlite_items::Items;
 use std::alloc::Global;
 
 /// The nodes that the statements of a text say, which are those of a derivation in preorder. The answer is a fault of the kind

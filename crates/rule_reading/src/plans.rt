@@ -11,8 +11,8 @@ use crate::names::is_reserved;
 use crate::plan_nodes::{binary_plan, unary_plan};
 use crate::scope::Scope;
 use spelling::{Cursor, Unread};
-use star_model::flavours::flavour_of;
 use sqlite_items::Boxed;
+use star_model::flavours::flavour_of;
 use star_model::rules::{Flavour, PlanExpr};
 use std::alloc::Global;
 

@@ -6,8 +6,8 @@ use crate::heads::range_head;
 use crate::scope::Scope;
 use crate::value_rules::ValueRules;
 use crate::values::value;
-use spelling::{Cursor, Unread};
 use rule_grammar::words::RangeHead;
+use spelling::{Cursor, Unread};
 use star_model::rules::Range;
 use std::alloc::Global;
 

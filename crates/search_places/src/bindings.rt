@@ -27,4 +27,3 @@ pub fn with_number(numbers: &ForAllValues, number: u32) -> ForAllValues
     prove!(pushed.is_ok());
     more
 }
-

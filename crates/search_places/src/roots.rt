@@ -41,4 +41,3 @@ fn name_called<'a>(rules: &'a RuleFile, letters: &[u8]) -> &'a Name
         None => unreachable!(),
     }
 }
-

@@ -90,7 +90,7 @@ opens_counted source (t ∷ ts) every = omega (arith, one (is_open t) (opens (le
     one true false so = let e = so refl in absurd cc
     one false b so = omega arith
 
--record ArePartsShallow (list : List Part) : Type 0 where
+record ArePartsShallow (list : List Part) : Type 0 where
   short : All (λ (part : Part). length (tokens_of part) ≤ 4096) list
   shallow : All (λ (part : Part). greatest_depth 0 (tokens_of part) ≤ 32) list
 
