@@ -14,7 +14,7 @@ use crate::own_columns::{has_columns_of, index_serves};
 use crate::predicates::preds_in;
 use crate::results::tables_after;
 use property_vector::canon;
-use query_graph::{home, keys, touches};
+use query_facts::{home, keys, touches};
 use star_model::columns::ColList;
 use star_model::plans::{Op, Props};
 use star_model::query::Query;

@@ -8,7 +8,7 @@ ghost use Rattle.star_model.specs.WellFormed.{WellFormedQuery};
 ghost use Rattle.star_model.specs.Operators.{none_touches, none_reaches_outside, links, is_single, is_disjoint, is_empty_list};
 
 use crate::predicates::preds_in;
-use query_graph::{is_equality, lies_in, touches};
+use query_facts::{is_equality, lies_in, touches};
 use star_model::columns::{ColList, ColSet};
 use star_model::plans::Props;
 use star_model::query::{Pred, Query};

@@ -12,7 +12,7 @@ ghost use Rattle.lolepop.specs.OwnColumns.{own_in};
 
 use crate::conditions::{has_all, is_single};
 use crate::predicates::preds_in;
-use query_graph::{index_columns, is_index_on};
+use query_facts::{index_columns, is_index_on};
 use star_model::columns::{Col, ColList, ColSet};
 use star_model::plans::Props;
 use star_model::query::{Operand, Pred, Query};

@@ -9,7 +9,7 @@ ghost use Rattle.lolepop.specs.UsedColumns.{used_among};
 use crate::arguments::applied;
 use crate::inputs::Inputs;
 use property_vector::canon;
-use query_graph::{card, home, index_columns, used};
+use query_facts::{card, home, index_columns, used};
 use star_model::columns::{ColList, ColSet, Site};
 use star_model::num::Num;
 use star_model::plans::{Op, Props};

@@ -8,7 +8,7 @@ ghost use Rattle.lolepop.specs.Widths.{without_widths};
 
 use crate::arguments::applied;
 use crate::inputs::Inputs;
-use query_graph::{only_member, table_of, width};
+use query_facts::{only_member, table_of, width};
 use star_model::catalogue::TableDef;
 use star_model::columns::{ColSet, Site};
 use star_model::formula::Vars;

@@ -8,7 +8,7 @@ ghost use Rattle.star_model.specs.Meaning.{plain};
 ghost use Rattle.star_model.specs.Sets.{union, meet};
 ghost use Rattle.star_model.specs.WellFormed.{WellFormedQuery};
 
-use query_graph::{eligible, used};
+use query_facts::{eligible, used};
 use star_model::columns::ColList;
 use star_model::plans::{Goal, Props, Require};
 use star_model::query::Query;

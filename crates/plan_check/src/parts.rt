@@ -10,7 +10,7 @@ ghost use Rattle.plan_check.specs.Places.{IsPlace};
 
 use crate::answers::Basis;
 use crate::bindings::values;
-use query_graph::crossing;
+use query_facts::crossing;
 use star_model::lists::{List, Name};
 use star_model::plans::{Goal, Op, Require};
 use star_model::query::Query;

@@ -4,7 +4,7 @@ ghost use Rattle.std.specs.Prelude.{◌≡◌};
 ghost use Rattle.star_model.specs.WellFormed.{WellFormedQuery};
 ghost use Rattle.plan_offers.specs.Targets.{target_of, meets_target};
 
-use query_graph::{eligible, used};
+use query_facts::{eligible, used};
 use star_model::columns::ColSet;
 use star_model::plans::{Goal, Props};
 use star_model::query::Query;

@@ -1,4 +1,3 @@
 -- The laws that other crates may cite. Each is the clause of a function of the module `theorems`.
 pub use Rattle.query_graph.proofs.FaultLaws.{one_fault, accepted_query}
 pub use Rattle.query_graph.proofs.Clear.{means_query, formed_query, good_query}
-pub use Rattle.query_graph.proofs.GatheringLaws.{gathered_none, gathered_more, gathered_same, gathered_all}

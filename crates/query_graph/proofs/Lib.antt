@@ -14,9 +14,6 @@ mod Formed
 mod Resolving
 pub mod StatementLaws
 pub mod Laws
-pub mod MemberWalks
-pub mod GatheringLaws
-pub mod UsedLaws
 mod Found
 mod Meaning
 mod FormedQuery
@@ -24,6 +21,3 @@ mod FaultLaws
 mod Judging
 mod GoodQuery
 mod Clear
-mod OnlyMembers
-mod KeyWalks
-mod WidthSums

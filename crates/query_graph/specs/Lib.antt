@@ -7,7 +7,4 @@ pub mod Quantifiers
 pub mod LimitTests
 pub mod TypeTests
 pub mod Fitting
-pub mod UsedColumns
 pub mod TextFaults
-pub mod GatheredPredicates
-pub mod Widths

@@ -1,18 +1,14 @@
 // The laws of the definitions, each the clause of a function that does nothing.
 
-ghost use Rattle.std.specs.Prelude.{◌≡◌, ℕ, ◌+◌, ◌<◌, Bool, true, false, List, None, Some, length, slice_index_or};
+ghost use Rattle.std.specs.Prelude.{◌≡◌, ℕ, List, None, Some};
 ghost use Rattle.sb_text.specs.Refusal.{fault_of};
-ghost use Rattle.star_model.specs.Sets.{single, union};
-ghost use Rattle.star_model.specs.Predicates.{preds_where};
 ghost use Rattle.star_model.specs.WellFormed.{WellFormedCatalogue, WellFormedQuery};
 ghost use Rattle.star_model.specs.declared.catalogue.Catalogue.{Catalogue};
 ghost use Rattle.star_model.specs.declared.faults.LimitKind.{LimitKind};
 ghost use Rattle.star_model.specs.declared.query.Query.{Query};
-ghost use Rattle.star_model.specs.declared.query.Pred.{Pred};
 ghost use Rattle.spelling.specs.Firsts.{NoneHas};
 ghost use Rattle.spelling.specs.Queries.{QueryStatement, IsQueryStatement, query_of, SpellsQuery};
 ghost use Rattle.query_graph.specs.declared.fault.QueryFault.{QueryFault};
-ghost use Rattle.query_graph.specs.GatheredPredicates.{gathered};
 ghost use Rattle.query_graph.specs.Faults.{NamesUnknown, DefinesTwice, Beyond, HasTwoTypes, Says, HasFault, IsFirstFault, IsAccepted};
 
 /// Over a catalogue one text has at most one first fault.
@@ -38,14 +34,4 @@ pub fn clear_statements_mean_queries()
 /// A text that spells a well-formed query has no fault, unless its tokens have one.
 pub fn well_formed_queries_have_no_fault()
     ensures { (c : Catalogue) (text : List ℕ) (query : Query) → fault_of text ≡ None → SpellsQuery c text query → WellFormedQuery query → (fault : QueryFault) → HasFault c text fault → ⊥ }
-{}
-
-/// A walk over a query's predicates that adds each one that passes has the set of those that pass at the end.
-pub fn walks_gather_predicates()
-    ensures none { (preds : List Pred) (test : Pred → Bool) → gathered preds test 0 ≡ 0 }
-    ensures more { (preds : List Pred) (test : Pred → Bool) (k : ℕ) (d : Pred) → k < 32 → k < length preds → test (slice_index_or preds k d) ≡ true
-        → union (gathered preds test k) (single k) ≡ gathered preds test (k + 1) }
-    ensures same { (preds : List Pred) (test : Pred → Bool) (k : ℕ) (d : Pred) → k < length preds → test (slice_index_or preds k d) ≡ false
-        → gathered preds test k ≡ gathered preds test (k + 1) }
-    ensures all { (q : Query) (test : Pred → Bool) → gathered q.preds test (length q.preds) ≡ preds_where q test }
 {}

@@ -4,7 +4,7 @@ ghost use Rattle.std.specs.Prelude.{◌≡◌};
 ghost use Rattle.star_model.specs.Expected.{ForGoal, goal_of};
 ghost use Rattle.star_model.specs.WellFormed.{WellFormedQuery};
 
-use query_graph::crossing;
+use query_facts::crossing;
 use star_model::plans::Goal;
 use star_model::query::Query;
 use star_model::sets::{PredSet, QuantSet};

@@ -8,7 +8,7 @@ ghost use Rattle.star_model.specs.Predicates.{columns_of, touches, lies_in, pred
 ghost use Rattle.star_model.specs.Meaning.{between_of, is_equality, indexable_in};
 ghost use Rattle.star_model.specs.WellFormed.{WellFormedQuery};
 
-use query_graph::{index_columns, is_equality, lies_in, touches};
+use query_facts::{index_columns, is_equality, lies_in, touches};
 use star_model::columns::{Col, ColList};
 use star_model::query::{Operand, Pred, Query};
 use star_model::sets::{PredSet, QuantSet};

@@ -9,7 +9,7 @@ use crate::env::Env;
 use crate::readings::{preds_of, quants_of};
 use crate::streams::tables_of;
 use crate::values::value;
-use query_graph::{is_index_of, only_member};
+use query_facts::{is_index_of, only_member};
 use star_model::columns::Site;
 use star_model::query::Query;
 use star_model::rules::Range;

@@ -11,7 +11,7 @@ use crate::predicates::{between, equalities, indexable};
 use crate::readings::{cols_of, index_of, preds_of, quants_of, site_of, stream_of};
 use crate::sets::{all_quants, meet_of, minus_of, union_of};
 use crate::streams::{tables_of, with_order, with_path, with_site, with_temp};
-use query_graph::{crossing, eligible, home, index_columns, keys, site_asked};
+use query_facts::{crossing, eligible, home, index_columns, keys, site_asked};
 use star_model::columns::ColList;
 use star_model::query::Query;
 use star_model::rules::ValueExpr;

@@ -1,7 +1,7 @@
 use Rattle.std.proofs.Common.{◌≡◌, ◌&&◌}
 use Rattle.star_model.specs.Sets.{union}
 use Rattle.star_model.specs.Predicates.{touches, lies_in}
-use Rattle.query_graph.specs.GatheredPredicates.{gathered}
+use Rattle.query_facts.specs.GatheredPredicates.{gathered}
 use Rattle.star_value.proofs.predicates.between.Given as goal
 
 abbrev pub invariant-loop-n : goal.invariant-loop-n

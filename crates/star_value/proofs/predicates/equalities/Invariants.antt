@@ -1,6 +1,6 @@
 use Rattle.std.proofs.Common.{◌≡◌}
 use Rattle.star_model.specs.Meaning.{is_equality}
-use Rattle.query_graph.specs.GatheredPredicates.{gathered}
+use Rattle.query_facts.specs.GatheredPredicates.{gathered}
 use Rattle.star_value.proofs.predicates.equalities.Given as goal
 
 abbrev pub invariant-loop-n : goal.invariant-loop-n

@@ -3,7 +3,7 @@ use Rattle.std.specs.List.{list_all, list_any}
 use Rattle.star_model.specs.Sets.{has}
 use Rattle.star_model.specs.Vectors.{same_column}
 use Rattle.star_model.specs.Predicates.{touches, columns_of}
-use Rattle.query_graph.specs.GatheredPredicates.{gathered}
+use Rattle.query_facts.specs.GatheredPredicates.{gathered}
 use Rattle.star_value.proofs.predicates.indexable.Given as goal
 
 abbrev pub invariant-loop-n : goal.invariant-loop-n

@@ -1,0 +1,7 @@
+mod MemberWalks
+mod OnlyMembers
+mod KeyWalks
+mod WidthSums
+mod GatheringLaws
+mod UsedLaws
+pub mod Laws

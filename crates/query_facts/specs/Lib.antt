@@ -1,0 +1,3 @@
+pub mod UsedColumns
+pub mod GatheredPredicates
+pub mod Widths
