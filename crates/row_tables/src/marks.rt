@@ -1,10 +1,14 @@
 // Texts written with marks.
 use std::alloc::{AllocError, Global};
 
-// Adds a part's copies. A part without a number has none.
+// Adds a part's copies, each with its own number. A part without a number has none.
 fn push_copies(text: &mut String, alloc: Global, part: &str) -> Result<(), AllocError> {
     let (count, unit) = part.split_once(' ').unwrap_or(("0", part));
-    for number in 1..=count.parse().unwrap_or(0u32) {
+    let count = count.parse().unwrap_or(0u32);
+    if !unit.contains('@') {
+        return text.push_str(unit.repeat(alloc, count as usize)?.as_str());
+    }
+    for number in 1..=count {
         let own = format!(in alloc; "{number}")?;
         text.push_str(unit.replace(alloc, "@", own.as_str())?.as_str())?;
     }
@@ -45,9 +49,9 @@ fn with_characters(alloc: Global, text: &str) -> Result<String, AllocError> {
 
 /// The text that is written with marks.
 pub fn expanded(alloc: Global, text: &str) -> Result<String, AllocError> {
-    let copied = with_copies(alloc, text)?;
-    let lines = copied.as_str().replace(alloc, "¶", "\n")?;
-    with_characters(alloc, lines.as_str())
+    let lines = text.replace(alloc, "¶", "\n")?;
+    let characters = with_characters(alloc, lines.as_str())?;
+    with_copies(alloc, characters.as_str())
 }
 
 /// The text with the parts that it names, of a table of parts.
