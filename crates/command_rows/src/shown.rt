@@ -3,9 +3,8 @@ use crate::runs::{AMPLE, words_of};
 use sb_outside::{MemoryShelf, MemorySink};
 use stars_core::stars;
 use std::alloc::{AllocError, Global};
-use std::fs;
-use std::io;
 use std::rt::Files;
+use std::{fs, io};
 
 // A shelf with those of the files that can be read.
 fn shelf_of<R: Files + AllocGlobal>(rt: &R, names: &[String]) -> Result<MemoryShelf, AllocError> {

@@ -1,7 +1,6 @@
 // Tables of runs and of calls over texts.
-use crate::judged;
-use crate::lines;
 use crate::runs::Texts;
+use crate::{judged, lines};
 use row_tables::{Table, Tally, read_table};
 use std::alloc::{AllocError, Global};
 use std::io;

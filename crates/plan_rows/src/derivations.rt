@@ -7,7 +7,7 @@ use lolepop::{Entry, step};
 use star_model::costs::Costs;
 use star_model::derivations::ForAllValues;
 use star_model::lists::Name;
-use star_model::plans::{Chain, Goal, GlueOp, Op};
+use star_model::plans::{Chain, GlueOp, Goal, Op};
 use star_model::query::Query;
 use std::alloc::{AllocError, Global};
 

@@ -1,14 +1,7 @@
 // What is asked of a text over a query.
 ghost use Rattle.star_model.specs.WellFormed.{WellFormedQuery};
 
-use crate::counts;
-use crate::derivations;
-use crate::glued;
-use crate::meanings;
-use crate::offers;
-use crate::parts;
-use crate::planned;
-use crate::vectors;
+use crate::{counts, derivations, glued, meanings, offers, parts, planned, vectors};
 use star_model::costs::Costs;
 use star_model::query::Query;
 use std::alloc::{AllocError, Global};
