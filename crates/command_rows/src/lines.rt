@@ -2,7 +2,8 @@
 use crate::runs::{AMPLE, Faults, NO_FAULTS, Texts, told};
 use std::alloc::{AllocError, Global};
 
-// The faults of a text's words: the number of a call, a room and what is kept, each a number or else nothing.
+// The faults of a text's words: the number of a call, a room and what is kept, each a number or
+// else nothing.
 fn faults_of(call: &str, room: &str, kept: &str) -> Faults {
     Faults {
         call: call.parse().unwrap_or(0),
@@ -11,7 +12,8 @@ fn faults_of(call: &str, room: &str, kept: &str) -> Faults {
     }
 }
 
-/// What the words of a text come to with its faults: `CALL ROOM KEPT WORDS`, with `-` for each fault that isn't there.
+/// What the words of a text come to with its faults: `CALL ROOM KEPT WORDS`, with `-` for each
+/// fault that isn't there.
 pub fn faulty(alloc: Global, text: &str, texts: Texts<'_>) -> Result<String, AllocError> {
     let (call, rest) = text.split_once(' ').unwrap_or((text, ""));
     let (room, rest) = rest.split_once(' ').unwrap_or((rest, ""));
@@ -48,7 +50,8 @@ fn lengthened(alloc: Global, text: &str, len: &str) -> Result<String, AllocError
     format!(in alloc; "{text}#{comment}")
 }
 
-/// What `plan` comes to over the texts at the lengths of a text, `RULES CATALOGUE QUERY`, with `-` for each that stays as it is.
+/// What `plan` comes to over the texts at the lengths of a text, `RULES CATALOGUE QUERY`, with `-`
+/// for each that stays as it is.
 pub fn long(alloc: Global, text: &str, texts: Texts<'_>) -> Result<String, AllocError> {
     let (first, rest) = text.split_once(' ').unwrap_or((text, ""));
     let (second, third) = rest.split_once(' ').unwrap_or((rest, ""));

@@ -1,9 +1,11 @@
-//! Runs of `stars` in memory: a run over the files beside it for each line of the input that begins with `shown`, and what came of it;
-//! and for each other line a table of runs.
+//! Runs of `stars` in memory: a run over the files beside it for each line of the input that begins
+//! with `shown`, and what came of it; and for each other line a table of runs.
 //!
-//! Behind `shown` a line has how many lines of the output are shown, or `all`, and then the words of the run. Few are shown where several
-//! plans cost the same, since any of them may be printed. Tables are read by the library `row_tables`: a run for each row, over a text of
-//! it, or with faults of it. The answers come from an independent program, which shares nothing with this repository.
+//! Behind `shown` a line has how many lines of the output are shown, or `all`, and then the words
+//! of the run. Few are shown where several plans cost the same, since any of them may be printed.
+//! Tables are read by the library `row_tables`: a run for each row, over a text of it, or with
+//! faults of it. The answers come from an independent program, which shares nothing with this
+//! repository.
 #![tactic(auto)]
 
 mod judged;

@@ -79,7 +79,8 @@ fn line_sink(alloc: Global, kept: Option<usize>) -> Result<MemorySink, AllocErro
     MemorySink::new(alloc, AMPLE, failing)
 }
 
-/// What the words of a line come to over the texts: the status, the number of calls of the shelf, and what the two sinks took.
+/// What the words of a line come to over the texts: the status, the number of calls of the shelf,
+/// and what the two sinks took.
 pub fn told(
     alloc: Global,
     line: &str,

@@ -35,7 +35,8 @@ fn first_lines(alloc: Global, text: &str, count: usize) -> Result<String, AllocE
     Ok(first)
 }
 
-/// Runs `stars` on the words of a line, and prints the status, the number of calls of the shelf, and what both sinks took.
+/// Runs `stars` on the words of a line, and prints the status, the number of calls of the shelf,
+/// and what both sinks took.
 pub fn run<R: Files + Print + AllocGlobal>(rt: &R, line: &str) -> io::Result<()> {
     let alloc = rt.alloc();
     let (count, line) = line.split_once(' ').unwrap_or((line, ""));

@@ -6,7 +6,8 @@ use std::alloc::{AllocError, Global};
 use std::io;
 use std::rt::Files;
 
-// What comes of the text of a row. The further files are a rule file, a catalogue and a query; of `query` the one is a catalogue.
+// What comes of the text of a row. The further files are a rule file, a catalogue and a query; of
+// `query` the one is a catalogue.
 fn answer(alloc: Global, table: &Table, text: &str) -> Result<String, AllocError> {
     let first = table.file(0, text);
     let texts = Texts {

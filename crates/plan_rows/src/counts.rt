@@ -9,7 +9,8 @@ use star_model::costs::Costs;
 use star_model::query::Query;
 use std::alloc::{AllocError, Global};
 
-/// To how many of the vectors of a text's plans, from the first on, its last operator is applicable: the numbers with commas between.
+/// To how many of the vectors of a text's plans, from the first on, its last operator is
+/// applicable: the numbers with commas between.
 pub fn told(alloc: Global, query: &Query, costs: &Costs, text: &str) -> Result<String, AllocError>
     requires { WellFormedQuery query.now }
 {

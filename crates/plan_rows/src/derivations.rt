@@ -34,7 +34,8 @@ fn leaf(alloc: Global, query: &Query, costs: &Costs, op: Op) -> Result<Option<En
     }
 }
 
-// The operator over an entry, as an operator of Glue or as a node of the derivation; none where it isn't applicable.
+// The operator over an entry, as an operator of Glue or as a node of the derivation; none where it
+// isn't applicable.
 fn over(
     alloc: Global,
     query: &Query,
@@ -100,7 +101,8 @@ fn operated(
     }
 }
 
-// The entry, derived through a reference: the name of the STAR, the number of the alternative, and the for-all values.
+// The entry, derived through a reference: the name of the STAR, the number of the alternative, and
+// the for-all values.
 fn referred(alloc: Global, entry: &Entry, text: &str) -> Result<Entry, AllocError> {
     let mut words = text.split(' ');
     let star = Name::from_slice(alloc, words.next().unwrap_or("").as_bytes())?;
@@ -112,7 +114,8 @@ fn referred(alloc: Global, entry: &Entry, text: &str) -> Result<Entry, AllocErro
     entry.referred(alloc, star, alternative, values)
 }
 
-// The entry, derived for a goal: its quantifiers, its predicates, and the two parts of its split if it has one.
+// The entry, derived for a goal: its quantifiers, its predicates, and the two parts of its split if
+// it has one.
 fn reached(alloc: Global, entry: &Entry, text: &str) -> Result<Option<Entry>, AllocError> {
     let mut words = text.split(' ');
     let Some(tables) = quants(words.next().unwrap_or("")) else {
@@ -131,7 +134,8 @@ fn reached(alloc: Global, entry: &Entry, text: &str) -> Result<Option<Entry>, Al
     Ok(Some(entry.reached(alloc, goal, split)?))
 }
 
-// The last entry, which is taken, after a step of its derivation; none where the step isn't understood or applicable.
+// The last entry, which is taken, after a step of its derivation; none where the step isn't
+// understood or applicable.
 fn derived(
     alloc: Global,
     query: &Query,
@@ -156,8 +160,8 @@ fn derived(
     }
 }
 
-// Puts what a step makes in the place of what it takes: an operator, or `ref`, `goal`, `glue`, or `with` and an operator of Glue. Whether
-// it is understood and applicable.
+// Puts what a step makes in the place of what it takes: an operator, or `ref`, `goal`, `glue`, or
+// `with` and an operator of Glue. Whether it is understood and applicable.
 fn take_step(
     alloc: Global,
     query: &Query,

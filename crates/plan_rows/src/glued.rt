@@ -84,8 +84,9 @@ fn all_told(alloc: Global, plans: PlanSet<Entry>) -> Result<String, AllocError> 
     Ok(told_all)
 }
 
-/// The first line of the derivation of what Glue makes of an access of the first quantifier's heap for a requirement, and its costs. The
-/// text has the operators that the requirement names, or `nothing`.
+/// The first line of the derivation of what Glue makes of an access of the first quantifier's heap
+/// for a requirement, and its costs. The text has the operators that the requirement names, or
+/// `nothing`.
 pub fn told(alloc: Global, query: &Query, costs: &Costs, text: &str) -> Result<String, AllocError>
     requires { WellFormedQuery query.now }
 {

@@ -55,8 +55,9 @@ fn required_stream() -> RuleValue {
     })
 }
 
-// `D` is the stream of the first quantifier, `E` that of the second, with everything required, and `B` that of both; `x` and `y` are the
-// first two indexes; `p` has the predicates 1, 2 and 5, `c` the second and the first column of the second quantifier, and `n` none.
+// `D` is the stream of the first quantifier, `E` that of the second, with everything required, and
+// `B` that of both; `x` and `y` are the first two indexes; `p` has the predicates 1, 2 and 5, `c`
+// the second and the first column of the second quantifier, and `n` none.
 fn bindings() -> Env {
     let first = QuantSet::single(0);
     let preds = PredSet::single(0)
@@ -90,7 +91,8 @@ fn meaning_of_argument(alloc: Global, body: &PlanExpr, query: &Query) -> Result<
     }
 }
 
-// The members of the first range; or else whether the condition holds; or else the value of the first argument.
+// The members of the first range; or else whether the condition holds; or else the value of the
+// first argument.
 fn meaning_of(alloc: Global, alternative: &Alternative, query: &Query) -> Result<String, AllocError>
     requires { WellFormedQuery query.now }
 {

@@ -38,7 +38,8 @@ fn offered(alloc: Global, set: &mut PlanSet<Props>, vector: Props) -> Result<Str
     Ok(told)
 }
 
-/// What becomes of the last of the plans of a text, which are offered to a new set one after another: between two of them is ` / `.
+/// What becomes of the last of the plans of a text, which are offered to a new set one after
+/// another: between two of them is ` / `.
 pub fn told(alloc: Global, query: &Query, costs: &Costs, text: &str) -> Result<String, AllocError>
     requires { WellFormedQuery query.now }
 {

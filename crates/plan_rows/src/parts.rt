@@ -71,8 +71,9 @@ fn told_part(alloc: Global, query: &Query, tables: QuantSet) -> Result<String, A
     )
 }
 
-/// What is told of the quantifiers of a text, of a query of two quantifiers: the predicates within and across, the used columns of each
-/// quantifier, and the estimated rows with the predicates within, and with all of these.
+/// What is told of the quantifiers of a text, of a query of two quantifiers: the predicates within
+/// and across, the used columns of each quantifier, and the estimated rows with the predicates
+/// within, and with all of these.
 pub fn told(alloc: Global, query: &Query, text: &str) -> Result<String, AllocError>
     requires { WellFormedQuery query.now }
 {

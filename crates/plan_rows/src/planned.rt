@@ -26,7 +26,8 @@ fn operators(alloc: Global, query: &Query, text: &str) -> Result<Option<Vec<Op>>
     Ok(Some(ops))
 }
 
-// The plan whose operator is the last, and takes the operators of the plan; none where one isn't applicable.
+// The plan whose operator is the last, and takes the operators of the plan; none where one isn't
+// applicable.
 fn planned(
     alloc: Global,
     query: &Query,
@@ -76,7 +77,8 @@ fn push_numbers(
     told.push_str(format!(in alloc; "{mark}{cost} {rescan} {card}")?.as_str())
 }
 
-/// The numbers of the nodes of a text's plan, `COST RESCAN CARD` of each, in the order of the operators.
+/// The numbers of the nodes of a text's plan, `COST RESCAN CARD` of each, in the order of the
+/// operators.
 pub fn told(alloc: Global, query: &Query, costs: &Costs, text: &str) -> Result<String, AllocError>
     requires { WellFormedQuery query.now }
 {

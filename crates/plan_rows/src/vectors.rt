@@ -1,5 +1,5 @@
-// What the operators of a text make, one after another: vectors of properties, and these as text, as
-// `tables {1} cols [e.id] preds {} order [] site hq temp no path [] card 1 cost 2 rescan 2`.
+// What the operators of a text make, one after another: vectors of properties, and these as text,
+// as `tables {1} cols [e.id] preds {} order [] site hq temp no path [] card 1 cost 2 rescan 2`.
 ghost use Rattle.star_model.specs.WellFormed.{WellFormedQuery};
 
 use crate::names::{column_text, list_text, preds_text, push_part, quants_text, site_text};
@@ -63,7 +63,8 @@ fn spoken(alloc: Global, query: &Query, vector: &Props) -> Result<String, AllocE
     format!(in alloc; "{relation} card {card} cost {cost} rescan {rescan}")
 }
 
-// Applies the operator to the last vectors, and puts its vector in their place. Whether it is applicable.
+// Applies the operator to the last vectors, and puts its vector in their place. Whether it is
+// applicable.
 fn apply(made: &mut Vec<Props>, query: &Query, costs: &Costs, op: &Op) -> Result<bool, AllocError>
     requires { WellFormedQuery query.now }
 {

@@ -28,7 +28,8 @@ impl Tally {
         Ok(())
     }
 
-    /// The number of rows, and on further lines the rows of which something else came, each with that.
+    /// The number of rows, and on further lines the rows of which something else came, each with
+    /// that.
     pub fn told(&self, alloc: Global) -> Result<String, AllocError> {
         let rows = self.rows;
         let others = self.others.as_str();

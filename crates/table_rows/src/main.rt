@@ -1,9 +1,12 @@
-//! What comes of files as tables: their rows or their fault, and the orders of their rows, table by table.
+//! What comes of files as tables: their rows or their fault, and the orders of their rows, table by
+//! table.
 //!
-//! A line of the input names a table of rows, as the library `row_tables` reads it, and a catalogue. A text has the name of a table of the
-//! catalogue, the numbers of columns where an order is asked, and behind `: ` the file. The answer has the number of rows and then their
-//! values, by the catalogue's order of columns, with texts in quotes; or what a refusal says of the file; or the numbers of the rows, from
-//! 0, in the order by the columns. The answers come from an independent program, which shares nothing with this repository.
+//! A line of the input names a table of rows, as the library `row_tables` reads it, and a
+//! catalogue. A text has the name of a table of the catalogue, the numbers of columns where an
+//! order is asked, and behind `: ` the file. The answer has the number of rows and then their
+//! values, by the catalogue's order of columns, with texts in quotes; or what a refusal says of the
+//! file; or the numbers of the rows, from 0, in the order by the columns. The answers come from an
+//! independent program, which shares nothing with this repository.
 #![tactic(auto)]
 
 mod files;

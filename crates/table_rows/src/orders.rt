@@ -30,7 +30,8 @@ fn columns_of(alloc: Global, numbers: &str) -> Result<Vec<u8>, AllocError> {
     Ok(columns)
 }
 
-/// The numbers of the rows of a file, in the order by the columns that stand behind the name of its table.
+/// The numbers of the rows of a file, in the order by the columns that stand behind the name of its
+/// table.
 pub fn told(
     alloc: Global,
     catalogue: &str,

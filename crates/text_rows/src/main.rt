@@ -1,8 +1,8 @@
-//! What comes of texts, table by table: their tokens; formulas, with their values and the nodes that let them fall; rule files and
-//! catalogues, as they are printed or with their faults.
+//! What comes of texts, table by table: their tokens; formulas, with their values and the nodes
+//! that let them fall; rule files and catalogues, as they are printed or with their faults.
 //!
-//! A line of the input names a table, as the library `row_tables` reads it. The answers come from an independent program, which shares
-//! nothing with this repository.
+//! A line of the input names a table, as the library `row_tables` reads it. The answers come from
+//! an independent program, which shares nothing with this repository.
 #![tactic(auto)]
 
 mod catalogues;
