@@ -1,10 +1,10 @@
 -- A goal asks for what its splits ask for, and one of one quantifier for nothing.
-use Rattle.std.proofs.Common.{◌≡◌, ℕ, ◌<◌, ◌^◌, Bool, true, false, nat_eq, List, [], Option, Some, None, refl, ap, sym, ◌∙◌, subst}
+use Rattle.std.proofs.Common.{◌≡◌, ℕ, ◌<◌, ◌^◌, true, false, nat_eq, List, [], Option, Some, None, ap, sym, ◌∙◌}
 use Rattle.std.specs.Prelude.{Contains, is_some, IsSome}
 use Rattle.std.proofs.lemmas.Bool.{true≢false}
 use Rattle.star_model.specs.Accepted.{IsAccepted, glues_in}
 use Rattle.star_model.specs.AskedGoals.{Asks}
-use Rattle.star_model.specs.Expected.{Expected, ForGoal, Expression, may_split, root_call}
+use Rattle.star_model.specs.Expected.{ForGoal, may_split, root_call}
 use Rattle.star_model.specs.Sets.{size, splits}
 use Rattle.star_model.specs.declared.plans.Goal.{Goal}
 use Rattle.star_model.specs.declared.query.Query.{Query}

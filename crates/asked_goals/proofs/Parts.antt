@@ -1,6 +1,5 @@
 -- What a place's parts ask for and isn't held, the place does.
-use Prim.Native.Nat.{zero, suc}
-use Rattle.std.proofs.Common.{◌≡◌, ℕ, ◌+◌, ◌-◌, Bool, true, false, not, ◌&&◌, nat_eq, ◌⊎◌, inl, inr, List, [], ◌∷◌, ◌++◌, Option, Some, None, IsSome, refl, ap, sym, ◌∙◌, subst, arith}
+use Rattle.std.proofs.Common.{◌≡◌, ℕ, ◌-◌, ◌⊎◌, inl, inr, List, Option, Some, None, sym, ◌∙◌, subst}
 use Rattle.star_model.specs.Expected.{Expected, ForGoal, Call, Expression, goal_of, values_of}
 use Rattle.star_model.specs.Meaning.{meaning, as_stream, as_preds}
 use Rattle.star_model.specs.PlanExprCases as expr
@@ -14,7 +13,7 @@ use Rattle.star_model.specs.declared.rules.ValueExpr.{ValueExpr}
 use Rattle.star_model.specs.declared.rules.RuleFile.{RuleFile}
 use Rattle.star_model.specs.declared.values.RuleValue.{RuleValue}
 use Rattle.table_set_memo.specs.Memos.{GoalSet, plans_at, IsHeld}
-use Rattle.exchange.specs.Asking.{IsGlueFor, AsksFrom, AsksBelow}
+use Rattle.exchange.specs.Asking.{AsksFrom, AsksBelow}
 use Rattle.exchange.proofs.Laws.{asks_parts}
 use Rattle.search_places.specs.Memos.{FirstMissing}
 

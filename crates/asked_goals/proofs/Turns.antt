@@ -1,10 +1,9 @@
 -- One turn of a loop over a STAR's alternatives, and of one over the members of a range.
-use Prim.Native.Nat.{zero, suc}
 use Rattle.std.proofs.Common.{◌≡◌, ℕ, ◌+◌, ◌<◌, ◌≤◌, ◌⊎◌, inl, inr, List, [], ◌∷◌, ◌++◌, length, Option, Some, None, get_or, refl, ap, sym, ◌∙◌, subst, arith, append_assoc, append-nil}
 use Rattle.std.specs.Prelude.{Contains, slice_get}
 use Rattle.std.proofs.lemmas.Option.{slice_get_within, slice_get-get_or}
 use Rattle.std.proofs.lemmas.List.Elements.{Contains-push_cases, Contains-append_right}
-use Rattle.star_model.specs.Expected.{Expected, Call, root_call}
+use Rattle.star_model.specs.Expected.{Call, root_call}
 use Rattle.star_model.specs.Meaning.{member_at, members_of, numbers_of}
 use Rattle.star_model.specs.Stars.{star_named}
 use Rattle.star_model.specs.declared.plans.Goal.{Goal}
@@ -14,7 +13,7 @@ use Rattle.star_model.specs.declared.rules.ForAll.{ForAll}
 use Rattle.star_model.specs.declared.rules.StarDef.{StarDef}
 use Rattle.star_model.specs.declared.rules.RuleFile.{RuleFile}
 use Rattle.star_model.specs.declared.values.RuleValue.{RuleValue}
-use Rattle.table_set_memo.specs.Memos.{GoalSet, plans_at, IsHeld}
+use Rattle.table_set_memo.specs.Memos.{GoalSet}
 use Rattle.exchange.specs.Asking.{AsksFrom}
 use Rattle.search_places.specs.Memos.{FirstMissing}
 use Rattle.search_places.specs.Searching.{IsWithin}

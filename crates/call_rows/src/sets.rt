@@ -1,5 +1,5 @@
 // The set of the query's goal, and what is made of it.
-ghost use Rattle.std.specs.Prelude.{◌≡◌, IfOk};
+ghost use Rattle.std.specs.Prelude.{IfOk};
 ghost use Rattle.star_model.specs.Expected.{query_goal};
 ghost use Rattle.star_model.specs.WellFormed.{WellFormedQuery};
 ghost use Rattle.exchange.specs.Places.{IsBestOf};

@@ -1,7 +1,7 @@
 // What a call answers of three texts.
 ghost use Rattle.std.specs.Prelude.{◌≤◌, length};
-ghost use Rattle.spelling.specs.RuleLimits.{WellFormedRules};
-ghost use Rattle.star_model.specs.WellFormed.{WellFormedCatalogue, WellFormedQuery};
+ghost use Rattle.star_model.specs.WellFormedRules.{WellFormedRules};
+ghost use Rattle.star_model.specs.WellFormed.{WellFormedCatalogue};
 
 use crate::calls::told;
 use catalogue::read_catalogue;

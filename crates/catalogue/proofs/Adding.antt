@@ -6,8 +6,8 @@ use Rattle.star_model.specs.declared.catalogue.Catalogue.{Catalogue}
 use Rattle.star_model.specs.declared.catalogue.SiteDef.{SiteDef}
 use Rattle.star_model.specs.declared.catalogue.TableDef.{TableDef}
 use Rattle.star_model.specs.declared.catalogue.IndexDef.{IndexDef}
-use Rattle.spelling.specs.Names.{place_of, is_among}
-use Rattle.spelling.specs.Catalogues.{CatalogueStatement, Site, Table, Index, TablePart, IndexPart, nothing_defined, site_names, table_names, column_names, table_from, with_statement, with_statements}
+use Rattle.star_model.specs.Names.{place_of, is_among}
+use Rattle.catalogue.specs.Catalogues.{CatalogueStatement, Site, Table, Index, TablePart, IndexPart, nothing_defined, site_names, table_names, column_names, table_from, with_statement, with_statements}
 use Rattle.std.proofs.lemmas.List.{map-append}
 use Rattle.std.proofs.lemmas.Bool.{or_left, or_right, and_from}
 use Rattle.star_model.specs.Vectors.{same_numbers}

@@ -17,9 +17,9 @@ use Rattle.star_model.specs.declared.catalogue.ColumnDef.{ColumnDef}
 use Rattle.star_model.specs.declared.catalogue.IndexDef.{IndexDef}
 use Rattle.star_model.specs.declared.faults.LimitKind.{LimitKind}
 use Rattle.star_model.specs.declared.faults.LimitKind.TheVariants as limit
-use Rattle.spelling.specs.Names.{place_of, is_among}
+use Rattle.star_model.specs.Names.{place_of, is_among}
 use Rattle.spelling.specs.Firsts.{NoneFrom}
-use Rattle.spelling.specs.Catalogues.{CatalogueStatement, Site, Table, Index, TablePart, IndexPart, nothing_defined, site_names, table_names, column_names, table_from, with_statement, with_statements, catalogue_of}
+use Rattle.catalogue.specs.Catalogues.{CatalogueStatement, Site, Table, Index, TablePart, IndexPart, nothing_defined, site_names, table_names, column_names, table_from, with_statement, with_statements, catalogue_of}
 use Rattle.catalogue.specs.Defined.{sites_in, tables_in, names_of, columns_in, names_unknown, is_defined, has_column_twice, NamesUnknown, DefinesTwice}
 use Rattle.catalogue.specs.Beyond.{Beyond, IsBeyond}
 use Rattle.catalogue.specs.LimitTests.{is_great, is_great_column, has_great_number, is_long, is_long_column, has_long_name}

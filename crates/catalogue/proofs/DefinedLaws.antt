@@ -5,8 +5,8 @@ use Rattle.std.specs.List.{list_any}
 use Rattle.star_model.specs.declared.catalogue.ColumnDef.{ColumnDef}
 use Rattle.std.proofs.lemmas.List.Folds.{list_any-append}
 use Rattle.star_model.specs.Vectors.{same_numbers}
-use Rattle.spelling.specs.Names.{is_among}
-use Rattle.spelling.specs.Catalogues.{CatalogueStatement, Site, Table, Index, TablePart}
+use Rattle.star_model.specs.Names.{is_among}
+use Rattle.catalogue.specs.Catalogues.{CatalogueStatement, Site, Table, Index, TablePart}
 use Rattle.catalogue.specs.declared.words.ColumnWords.{ColumnWords}
 use Rattle.catalogue.specs.Words.{column_of}
 use Rattle.catalogue.specs.Known.{column_names}

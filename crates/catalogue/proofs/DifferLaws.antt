@@ -7,7 +7,7 @@ use Rattle.std.proofs.lemmas.Bool.{and_parts, and_from, not_from_true, both_ways
 use Rattle.std.proofs.lemmas.List.Folds.{list_all-append}
 use Rattle.star_model.specs.Vectors.{same_numbers}
 use Rattle.star_model.specs.WellFormed.{differ}
-use Rattle.spelling.specs.Names.{is_among}
+use Rattle.star_model.specs.Names.{is_among}
 use Rattle.catalogue.specs.NameSets.{with_name}
 use Rattle.catalogue.proofs.FirstLaws.{take_one}
 use Rattle.star_model.proofs.Laws.{same_self}

@@ -13,7 +13,7 @@ use Rattle.spelling.specs.Cursors.{part_said}
 use Rattle.spelling.specs.Firsts.{FirstAt, NoneHas}
 use Rattle.spelling.specs.FirstsCases.{none_first}
 use Rattle.spelling.specs.Syntax.{IsUnderstood, IsStrangeAt}
-use Rattle.spelling.specs.Catalogues.{CatalogueStatement, catalogue_lexemes, SpellsCatalogueStatement, catalogue_of}
+use Rattle.catalogue.specs.Catalogues.{CatalogueStatement, catalogue_lexemes, SpellsCatalogueStatement, catalogue_of}
 use Rattle.catalogue.specs.declared.fault.CatFault.{CatFault}
 use Rattle.catalogue.specs.declared.fault.CatFault.TheVariants.{Lexical, TooDeep, Syntax, Unknown, Twice, Limit, Memory}
 use Rattle.catalogue.specs.Defined.{NamesUnknown, DefinesTwice}

@@ -18,11 +18,13 @@ use Rattle.star_model.specs.declared.catalogue.SiteDef.{SiteDef}
 use Rattle.star_model.specs.declared.catalogue.TableDef.{TableDef}
 use Rattle.star_model.specs.declared.catalogue.ColumnDef.{ColumnDef}
 use Rattle.star_model.specs.declared.catalogue.IndexDef.{IndexDef}
-use Rattle.spelling.specs.Lexemes.{comma, joined_by, Every, HasItem}
+use Rattle.spelling.specs.Lexemes.{comma, joined_by}
+use Rattle.star_model.specs.Every.{Every, HasItem}
 use Rattle.spelling.specs.Layout.{IsLexeme}
-use Rattle.spelling.specs.Names.{is_among, place_of, all_of}
+use Rattle.star_model.specs.Names.{is_among, place_of}
+use Rattle.spelling.specs.Names.{all_of}
 use Rattle.spelling.specs.Firsts.{NoneFrom, NoneHas}
-use Rattle.spelling.specs.Catalogues.{TablePart, IndexPart, CatalogueStatement, Site, Table, Index, column_lexemes, catalogue_lexemes, HasColumns, site_names, table_names, column_names, table_from, with_statement, with_statements, nothing_defined, catalogue_of}
+use Rattle.catalogue.specs.Catalogues.{TablePart, IndexPart, CatalogueStatement, Site, Table, Index, column_lexemes, catalogue_lexemes, HasColumns, site_names, table_names, column_names, table_from, with_statement, with_statements, nothing_defined, catalogue_of}
 use Rattle.spelling.proofs.Laws.{formed_statements}
 use Rattle.star_model.specs.declared.faults.LimitKind.TheVariants as limit
 use Rattle.catalogue.specs.Defined.{sites_in, tables_in, indexes_in, names_of, is_defined, has_column_twice, DefinesTwice}

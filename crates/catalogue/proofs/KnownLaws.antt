@@ -7,9 +7,9 @@ use Rattle.std.proofs.lemmas.List.Folds.{list_any-append}
 use Rattle.std.proofs.lemmas.Bool.{and_parts}
 use Rattle.std.proofs.Math.Bool.{or-false}
 use Rattle.star_model.specs.Vectors.{same_numbers}
-use Rattle.spelling.specs.Names.{is_among}
-use Rattle.spelling.specs.Catalogues as statement
-use Rattle.spelling.specs.Catalogues.{CatalogueStatement}
+use Rattle.star_model.specs.Names.{is_among}
+use Rattle.catalogue.specs.Catalogues as statement
+use Rattle.catalogue.specs.Catalogues.{CatalogueStatement}
 use Rattle.catalogue.specs.declared.words.SiteWords.{SiteWords}
 use Rattle.catalogue.specs.declared.words.ColumnWords.{ColumnWords}
 use Rattle.catalogue.specs.declared.words.TableWords.{TableWords}

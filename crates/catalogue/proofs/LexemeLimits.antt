@@ -8,7 +8,7 @@ use Rattle.spelling.specs.Lexemes.{Lexeme, Word, Number, Text, Symbol, comma, ri
 use Rattle.spelling.specs.Limits.{HasLongWord, HasGreatNumber}
 use Rattle.star_model.specs.declared.catalogue.ColType.{ColType}
 use Rattle.star_model.specs.declared.catalogue.ColType.TheVariants as type
-use Rattle.spelling.specs.Catalogues.{CatalogueStatement, Site, Table, Index, type_word, column_lexemes, name_lexemes, catalogue_lexemes}
+use Rattle.catalogue.specs.Catalogues.{CatalogueStatement, Site, Table, Index, type_word, column_lexemes, name_lexemes, catalogue_lexemes}
 use Rattle.star_model.specs.declared.catalogue.ColumnDef.{ColumnDef}
 use Rattle.catalogue.specs.LimitTests.{is_great, is_great_column, has_great_number, is_long, is_long_column, has_long_name}
 

@@ -6,7 +6,6 @@ mod FaultOrder
 mod PlaceLaws
 mod Adding
 mod Clear
-mod Shallow
 mod ReadBack
 mod NameLists
 mod FirstLaws
@@ -22,3 +21,7 @@ mod Formed
 pub mod Laws
 mod Resolved
 mod SoFar
+mod CatalogueCanonical
+mod CatalogueLaws
+mod CatalogueWriting
+mod SmallestText

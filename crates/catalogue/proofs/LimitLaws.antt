@@ -12,7 +12,7 @@ use Rattle.star_model.specs.declared.faults.LimitKind.{LimitKind}
 use Rattle.star_model.specs.declared.faults.LimitKind.TheVariants as limit
 use Rattle.spelling.specs.Limits.{limit_rank}
 use Rattle.star_model.specs.declared.catalogue.SiteDef.{SiteDef}
-use Rattle.spelling.specs.Catalogues.{CatalogueStatement, Site, Table, Index, TablePart, IndexPart}
+use Rattle.catalogue.specs.Catalogues.{CatalogueStatement, Site, Table, Index, TablePart, IndexPart}
 use Rattle.catalogue.specs.Defined.{sites_in, tables_in, indexes_in}
 use Rattle.std.specs.List.{list_any}
 use Rattle.catalogue.specs.Words.{column_of}

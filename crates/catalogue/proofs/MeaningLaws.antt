@@ -11,9 +11,9 @@ use Rattle.star_model.specs.declared.catalogue.Catalogue.{Catalogue}
 use Rattle.star_model.specs.declared.catalogue.SiteDef.{SiteDef}
 use Rattle.star_model.specs.declared.catalogue.TableDef.{TableDef}
 use Rattle.star_model.specs.declared.catalogue.IndexDef.{IndexDef}
-use Rattle.spelling.specs.Names.{is_among, place_of}
+use Rattle.star_model.specs.Names.{is_among, place_of}
 use Rattle.spelling.specs.Firsts.{NoneFrom, NoneHas}
-use Rattle.spelling.specs.Catalogues.{CatalogueStatement, Site, Table, Index, TablePart, IndexPart, site_names, table_names, column_names, table_from, with_statement, with_statements, nothing_defined, catalogue_of}
+use Rattle.catalogue.specs.Catalogues.{CatalogueStatement, Site, Table, Index, TablePart, IndexPart, site_names, table_names, column_names, table_from, with_statement, with_statements, nothing_defined, catalogue_of}
 use Rattle.catalogue.specs.Defined.{sites_in, tables_in, indexes_in, names_of, columns_in, names_unknown, is_defined, has_column_twice, NamesUnknown, DefinesTwice}
 use Rattle.catalogue.proofs.DefinedLaws.{sites_in-append, tables_in-append, indexes_in-append, columns_in-append, columns_of_table, among-append}
 use Rattle.catalogue.proofs.Places.{Stands, StandAll, placed, found_place, among_found, still_placed, placed_new, all_stand, all_of_places}

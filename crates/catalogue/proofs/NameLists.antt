@@ -4,7 +4,7 @@ use Rattle.std.specs.Prelude.{◌&&◌, if◌then◌else◌}
 use Rattle.std.specs.List.{list_any}
 use Rattle.std.proofs.lemmas.List.{map-append}
 use Rattle.star_model.specs.Vectors.{same_numbers}
-use Rattle.spelling.specs.Names.{is_among}
+use Rattle.star_model.specs.Names.{is_among}
 use Rattle.catalogue.specs.NameSets.{with_name, NamePair, has_pair, with_pair}
 
 module _ {K V : Type 0} (view : K → V) where

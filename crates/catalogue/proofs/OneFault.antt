@@ -2,13 +2,15 @@
 use Rattle.std.proofs.Common.{◌≡◌, ◌-◌, ℕ, List, [], ◌∷◌, map, take, Some, refl, sym, ap, ◌∙◌, subst, arith}
 use Rattle.sb_text.specs.declared.token.TextFault.TheVariants as text
 use Rattle.star_model.specs.declared.faults.LimitKind.{LimitKind}
-use Rattle.spelling.specs.Lexemes.{Every, statements_in}
+use Rattle.star_model.specs.Every.{Every}
+use Rattle.spelling.specs.Lexemes.{statements_in}
 use Rattle.spelling.specs.Firsts.{FirstAt}
 use Rattle.spelling.specs.FirstsCases.{one_first}
 use Rattle.spelling.specs.Limits.{IsFirstBeyond}
 use Rattle.spelling.specs.LimitsCases.{one_limit}
-use Rattle.spelling.specs.Catalogues.{CatalogueStatement, catalogue_lexemes, HasColumns}
-use Rattle.spelling.proofs.Laws.{one_list, one_catalogue_statement}
+use Rattle.catalogue.specs.Catalogues.{CatalogueStatement, catalogue_lexemes, HasColumns}
+use Rattle.spelling.proofs.Laws.{one_list}
+use Rattle.catalogue.proofs.Laws.{one_catalogue_statement}
 use Rattle.catalogue.specs.declared.fault.CatFault.{CatFault}
 use Rattle.catalogue.specs.declared.fault.CatFault.TheVariants.{Lexical, TooDeep, Syntax, Unknown, Twice, Limit, Memory}
 use Rattle.catalogue.specs.Defined.{NamesUnknown, DefinesTwice}

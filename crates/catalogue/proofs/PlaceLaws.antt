@@ -7,7 +7,8 @@ use Rattle.std.proofs.Math.Seq.{take-append_seam}
 use Rattle.std.proofs.lemmas.Bool.{and_parts, and_from, both_ways, not_from_false, not-true}
 use Rattle.star_model.specs.Vectors.{same_numbers}
 use Rattle.star_model.specs.WellFormed.{differ, Each, more}
-use Rattle.spelling.specs.Names.{is_among, place_of, all_of}
+use Rattle.star_model.specs.Names.{is_among, place_of}
+use Rattle.spelling.specs.Names.{all_of}
 use Rattle.catalogue.proofs.DifferLaws.{repeats}
 use Rattle.catalogue.proofs.Places.{among_found}
 use Rattle.star_model.proofs.Laws.{same_are}

@@ -5,7 +5,8 @@ use Rattle.std.specs.List.{list_all, position_from}
 use Rattle.std.specs.Cmp.Lexicographic.{same_text}
 use Rattle.std.proofs.lemmas.Bool.{and_parts, or_parts}
 use Rattle.star_model.specs.Vectors.{same_numbers}
-use Rattle.spelling.specs.Names.{is_among, place_of, all_of}
+use Rattle.star_model.specs.Names.{is_among, place_of}
+use Rattle.spelling.specs.Names.{all_of}
 use Rattle.star_model.proofs.Laws.{same_self}
 
 -- ---- one name

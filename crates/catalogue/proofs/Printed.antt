@@ -9,7 +9,7 @@ use Rattle.star_model.specs.declared.catalogue.TableDef.{TableDef}
 use Rattle.star_model.specs.declared.catalogue.IndexDef.{IndexDef}
 use Rattle.star_model.specs.WellFormed.{Each, none, more}
 use Rattle.spelling.specs.Lexemes.{Lexeme, Word, Number, comma, joined_by, bracketed}
-use Rattle.spelling.specs.Catalogues.{CatalogueStatement, Site, catalogue_lexemes, name_lexemes, name_at, column_names, table_statement, index_statement, catalogue_statements, canonical}
+use Rattle.catalogue.specs.Catalogues.{CatalogueStatement, Site, catalogue_lexemes, name_lexemes, name_at, column_names, table_statement, index_statement, catalogue_statements, canonical}
 use Rattle.spelling.specs.Writing.{Written, whole, put, puts, ended, lines}
 use Rattle.spelling.proofs.Laws.{puts-more, puts-none, puts-append, lines-more, lines-none, lines-append, lines-layout}
 

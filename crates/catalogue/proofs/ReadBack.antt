@@ -5,15 +5,17 @@ use Rattle.star_model.specs.declared.catalogue.Catalogue.{Catalogue}
 use Rattle.star_model.specs.declared.catalogue.ColumnDef.{ColumnDef}
 use Rattle.star_model.specs.declared.faults.LimitKind.TheVariants as limit
 use Rattle.star_model.specs.WellFormed.{WellFormedCatalogue}
-use Rattle.spelling.specs.Lexemes.{Lexeme, Word, Number, comma, right_bracket, joined_by, Every}
+use Rattle.spelling.specs.Lexemes.{Lexeme, Word, Number, comma, right_bracket, joined_by}
+use Rattle.star_model.specs.Every.{Every}
 use Rattle.spelling.specs.Firsts.{NoneFrom}
-use Rattle.spelling.specs.Catalogues.{CatalogueStatement, Site, Table, Index, column_lexemes, name_lexemes, catalogue_lexemes, canonical, SpellsCatalogue}
-use Rattle.spelling.proofs.Laws.{one_catalogue, canonical_catalogue}
+use Rattle.catalogue.specs.Catalogues.{CatalogueStatement, Site, Table, Index, column_lexemes, name_lexemes, catalogue_lexemes, canonical, SpellsCatalogue}
+use Rattle.catalogue.proofs.Laws.{one_catalogue, canonical_catalogue}
 use Rattle.catalogue.specs.declared.fault.CatFault.{CatFault}
 use Rattle.catalogue.specs.declared.fault.CatFault.TheVariants.{Lexical, TooDeep, Syntax, Unknown, Twice, Limit, Memory}
 use Rattle.catalogue.specs.Beyond.{IsBeyond}
 use Rattle.catalogue.specs.Faults.{IsAccepted, ReadsCatalogue}
-use Rattle.catalogue.proofs.Shallow.{count_opens, IsShallow, no_deep_fault}
+use Rattle.spelling.specs.Shallow.{count_opens, IsShallow}
+use Rattle.spelling.proofs.Laws.{no_deep_fault}
 use Rattle.catalogue.proofs.Clear.{clear_statements}
 use Rattle.catalogue.proofs.FaultOrder.{accepted}
 

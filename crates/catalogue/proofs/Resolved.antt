@@ -9,9 +9,10 @@ use Rattle.star_model.specs.declared.catalogue.ColumnDef.{ColumnDef}
 use Rattle.std.proofs.lemmas.List.{length-map}
 use Rattle.std.proofs.lemmas.Iterator.Adapters.{position_from-zero}
 use Rattle.star_model.specs.Vectors.{same_numbers}
-use Rattle.spelling.specs.Names.{place_of, all_of}
+use Rattle.star_model.specs.Names.{place_of}
+use Rattle.spelling.specs.Names.{all_of}
 use Rattle.star_model.specs.declared.catalogue.TableDef.{TableDef}
-use Rattle.spelling.specs.Catalogues.{IndexPart, column_names}
+use Rattle.catalogue.specs.Catalogues.{IndexPart, column_names}
 use Rattle.catalogue.specs.Resolving.{resolved_index}
 use Rattle.catalogue.specs.declared.words.ColumnWords.{ColumnWords}
 use Rattle.catalogue.specs.Words.{column_of}

@@ -8,8 +8,8 @@ use Rattle.star_model.specs.declared.catalogue.Catalogue.{Catalogue}
 use Rattle.star_model.specs.declared.catalogue.SiteDef.{SiteDef}
 use Rattle.star_model.specs.declared.catalogue.TableDef.{TableDef}
 use Rattle.star_model.specs.declared.faults.LimitKind.TheVariants as limit
-use Rattle.spelling.specs.Lexemes.{Every}
-use Rattle.spelling.specs.Catalogues.{CatalogueStatement, Site, Table, Index, with_statement, with_statements, nothing_defined, catalogue_of, table_from}
+use Rattle.star_model.specs.Every.{Every}
+use Rattle.catalogue.specs.Catalogues.{CatalogueStatement, Site, Table, Index, with_statement, with_statements, nothing_defined, catalogue_of, table_from}
 use Rattle.catalogue.specs.Defined.{NamesUnknown, DefinesTwice, sites_in, tables_in, names_unknown, is_defined, has_column_twice}
 use Rattle.catalogue.specs.Beyond.{IsBeyond}
 use Rattle.catalogue.specs.Judged.{AreClear}

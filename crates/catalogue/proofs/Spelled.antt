@@ -4,9 +4,10 @@ use Rattle.std.proofs.lemmas.Option.{some_pair_parts}
 use Rattle.star_model.specs.declared.catalogue.ColType.{ColType}
 use Rattle.star_model.specs.declared.catalogue.ColType.TheVariants as type
 use Rattle.star_model.specs.Vectors.{same_numbers}
-use Rattle.spelling.specs.Lexemes.{Lexeme, Word, Number, Text, comma, left_bracket, right_bracket, joined_by, bracketed, HasItem, Every}
-use Rattle.spelling.specs.Catalogues as statement
-use Rattle.spelling.specs.Catalogues.{CatalogueStatement, column_lexemes, name_lexemes, catalogue_lexemes, type_word, HasColumns}
+use Rattle.spelling.specs.Lexemes.{Lexeme, Word, Number, Text, comma, left_bracket, right_bracket, joined_by, bracketed}
+use Rattle.star_model.specs.Every.{HasItem, Every}
+use Rattle.catalogue.specs.Catalogues as statement
+use Rattle.catalogue.specs.Catalogues.{CatalogueStatement, column_lexemes, name_lexemes, catalogue_lexemes, type_word, HasColumns}
 use Rattle.spelling.specs.Reading.{Reader, ◌>>=◌, pure, given, the_word, the_symbol, a_word, a_number, a_text}
 use Rattle.spelling.specs.ReadingCases.{given_reads}
 use Rattle.spelling.specs.SeriesReadingCases.{Spells, series_spelled}

@@ -5,22 +5,24 @@ use Rattle.std.proofs.lemmas.Option.{some_pair_parts}
 use Rattle.star_model.specs.declared.catalogue.ColType.{ColType}
 use Rattle.star_model.specs.declared.catalogue.ColType.TheVariants as type
 use Rattle.star_model.specs.declared.catalogue.ColumnDef.{ColumnDef}
-use Rattle.spelling.specs.Lexemes.{Lexeme, Word, Number, MaybeEnded, ended, statements_in, comma, right_bracket, joined_by, HasItem, Every}
+use Rattle.spelling.specs.Lexemes.{Lexeme, Word, Number, MaybeEnded, ended, statements_in, comma, right_bracket, joined_by}
+use Rattle.star_model.specs.Every.{HasItem, Every}
 use Rattle.spelling.specs.Cursors.{part_said}
 use Rattle.spelling.specs.Firsts.{NoneFrom}
 use Rattle.spelling.specs.FirstsCases.{first_is_new, first_stays}
 use Rattle.spelling.specs.Syntax.{IsUnderstood, IsStrangeAt}
-use Rattle.spelling.specs.Catalogues.{CatalogueStatement, TablePart, IndexPart, column_lexemes, name_lexemes, catalogue_lexemes, type_word, HasColumns, SpellsCatalogueStatement}
-use Rattle.spelling.specs.Catalogues as statement
+use Rattle.catalogue.specs.Catalogues.{CatalogueStatement, column_lexemes, name_lexemes, catalogue_lexemes, type_word, HasColumns, SpellsCatalogueStatement}
+use Rattle.catalogue.specs.Catalogues as statement
 use Rattle.spelling.specs.Reading.{Reader, the_symbol, a_word}
 use Rattle.catalogue.specs.declared.words.ColumnWords.{ColumnWords}
 use Rattle.catalogue.specs.declared.words.StatementWords.{StatementWords}
 use Rattle.catalogue.specs.declared.words.StatementWords.TheVariants.{Site, Table, Index}
 use Rattle.catalogue.specs.Words.{column_of, said}
-use Rattle.catalogue.specs.declared.statement.Unread.{Unread}
-use Rattle.catalogue.specs.declared.statement.Unread.TheVariants.{Strange, Memory}
+use Rattle.spelling.specs.declared.unread.Unread.{Unread}
+use Rattle.spelling.specs.declared.unread.Unread.TheVariants.{Strange, Memory}
 use Rattle.catalogue.specs.Statements.{StatementRead}
-use Rattle.catalogue.specs.Reading.{Answers, items_at, site_at, type_named, column_at, table_at, index_at, statement_at}
+use Rattle.catalogue.specs.Reading.{items_at, site_at, type_named, column_at, table_at, index_at, statement_at}
+use Rattle.spelling.specs.Answers.{Answers}
 use Rattle.spelling.specs.SeriesReadingCases.{IsRead, series_read}
 use Rattle.spelling.proofs.Laws.{the_symbol_reads}
 use Rattle.sb_text.specs.Statements.{Part}

@@ -3,7 +3,7 @@ use Rattle.std.specs.Prelude.{ℕ, ◌<◌, ◌≤◌, List, length, IsUtf8}
 use Rattle.star_model.specs.declared.faults.LimitKind.{LimitKind}
 use Rattle.star_model.specs.declared.faults.LimitKind.TheVariants as limit
 use Rattle.spelling.specs.Limits.{HasGreatNumber, HasLongWord, IsFirstBeyond}
-use Rattle.spelling.specs.Catalogues.{CatalogueStatement, Site, Table, Index, catalogue_lexemes}
+use Rattle.catalogue.specs.Catalogues.{CatalogueStatement, Site, Table, Index, catalogue_lexemes}
 use Rattle.catalogue.specs.Defined.{sites_in, tables_in, indexes_in}
 
 -- a name that a file may have: 1 to 255 bytes of UTF-8

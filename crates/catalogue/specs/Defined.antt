@@ -4,8 +4,8 @@ use Rattle.std.specs.List.{list_all}
 use Rattle.star_model.specs.Vectors.{same_numbers}
 use Rattle.star_model.specs.WellFormed.{differ}
 use Rattle.star_model.specs.declared.catalogue.ColumnDef.{ColumnDef}
-use Rattle.spelling.specs.Names.{is_among}
-use Rattle.spelling.specs.Catalogues.{CatalogueStatement, Site, Table, Index}
+use Rattle.star_model.specs.Names.{is_among}
+use Rattle.catalogue.specs.Catalogues.{CatalogueStatement, Site, Table, Index}
 
 -- ---- what is defined
 

@@ -5,10 +5,11 @@ use Rattle.sb_text.specs.declared.token.TextFault.TheVariants as text_fault
 use Rattle.star_model.specs.declared.faults.LimitKind.{LimitKind}
 use Rattle.star_model.specs.declared.catalogue.Catalogue.{Catalogue}
 use Rattle.star_model.specs.WellFormed.{WellFormedCatalogue}
-use Rattle.spelling.specs.Lexemes.{IsStatements, Every}
+use Rattle.spelling.specs.Lexemes.{IsStatements}
+use Rattle.star_model.specs.Every.{Every}
 use Rattle.spelling.specs.Firsts.{FirstAt}
 use Rattle.spelling.specs.Syntax.{IsStrangeAt}
-use Rattle.spelling.specs.Catalogues.{CatalogueStatement, catalogue_lexemes, HasColumns, SpellsCatalogueStatement, SpellsCatalogue}
+use Rattle.catalogue.specs.Catalogues.{CatalogueStatement, catalogue_lexemes, HasColumns, SpellsCatalogueStatement, SpellsCatalogue}
 use Rattle.catalogue.specs.declared.fault.CatFault.{CatFault}
 use Rattle.catalogue.specs.declared.fault.CatFault.TheVariants.{Lexical, TooDeep, Syntax, Unknown, Twice, Limit, Memory}
 use Rattle.catalogue.specs.Defined.{NamesUnknown, DefinesTwice}

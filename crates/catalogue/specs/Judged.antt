@@ -3,7 +3,7 @@ use Rattle.std.specs.Prelude.{List, Result, Ok, Err}
 use Rattle.sb_text.specs.declared.token.TextFault.{TextFault}
 use Rattle.sb_text.specs.declared.token.TextFault.TheVariants as text
 use Rattle.spelling.specs.Firsts.{FirstAt, NoneHas}
-use Rattle.spelling.specs.Catalogues.{CatalogueStatement}
+use Rattle.catalogue.specs.Catalogues.{CatalogueStatement}
 use Rattle.catalogue.specs.declared.fault.CatFault.{CatFault}
 use Rattle.catalogue.specs.declared.fault.CatFault.TheVariants.{Lexical, TooDeep, Unknown, Twice, Limit, Memory}
 use Rattle.catalogue.specs.Defined.{NamesUnknown, DefinesTwice}

@@ -1,7 +1,7 @@
 -- What is kept of the statements so far, to tell whether the next one names what is defined.
 use Rattle.std.specs.Prelude.{◌≡◌, ℕ, List, fold, map}
-use Rattle.spelling.specs.Names.{is_among}
-use Rattle.spelling.specs.Catalogues.{CatalogueStatement}
+use Rattle.star_model.specs.Names.{is_among}
+use Rattle.catalogue.specs.Catalogues.{CatalogueStatement}
 use Rattle.catalogue.specs.declared.words.ColumnWords.{ColumnWords}
 use Rattle.catalogue.specs.declared.names.Known.{Known}
 use Rattle.catalogue.specs.declared.names.Defined.{Defined}

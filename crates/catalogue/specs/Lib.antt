@@ -9,3 +9,4 @@ pub mod Resolving
 pub mod Reading
 pub mod Statements
 pub mod Judged
+pub mod Catalogues

@@ -7,7 +7,7 @@ use Rattle.star_model.specs.declared.faults.LimitKind.{LimitKind}
 use Rattle.star_model.specs.declared.faults.LimitKind.TheVariants as limit
 use Rattle.star_model.specs.declared.catalogue.ColumnDef.{ColumnDef}
 use Rattle.catalogue.specs.declared.limits.Counts.{Counts}
-use Rattle.spelling.specs.Catalogues.{CatalogueStatement, Site, Table, Index}
+use Rattle.catalogue.specs.Catalogues.{CatalogueStatement, Site, Table, Index}
 use Rattle.catalogue.specs.Defined.{sites_in, tables_in, indexes_in}
 
 abbrev pub is_great : ℕ → Bool

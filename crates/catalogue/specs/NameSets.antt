@@ -2,7 +2,7 @@
 use Rattle.std.specs.Prelude.{ℕ, Bool, ◌&&◌, List, [], ◌∷◌, ◌++◌, if◌then◌else◌}
 use Rattle.std.specs.List.{list_any}
 use Rattle.star_model.specs.Vectors.{same_numbers}
-use Rattle.spelling.specs.Names.{is_among}
+use Rattle.star_model.specs.Names.{is_among}
 
 -- the names with this one, last where it is new
 abbrev pub with_name : List (List ℕ) → List ℕ → List (List ℕ)

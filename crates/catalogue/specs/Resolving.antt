@@ -3,11 +3,10 @@ use Rattle.std.specs.Prelude.{◌≡◌, ◌≤◌, false, IsSome, List, length,
 use Rattle.star_model.specs.declared.catalogue.Catalogue.{Catalogue}
 use Rattle.star_model.specs.declared.catalogue.TableDef.{TableDef}
 use Rattle.star_model.specs.declared.catalogue.IndexDef.{IndexDef}
-use Rattle.spelling.specs.Lexemes.{Every}
-use Rattle.spelling.specs.Names.{place_of, all_of, ◌>>=◌}
-use Rattle.spelling.specs.Catalogues.{CatalogueStatement, Site, Table, Index, IndexPart, column_names, with_statement}
-use Rattle.spelling.specs.Names.{place_of, all_of, ◌>>=◌}
-use Rattle.star_model.specs.declared.catalogue.IndexDef.{IndexDef}
+use Rattle.star_model.specs.Every.{Every}
+use Rattle.star_model.specs.Names.{place_of}
+use Rattle.spelling.specs.Names.{all_of}
+use Rattle.catalogue.specs.Catalogues.{CatalogueStatement, Site, Table, Index, IndexPart, column_names, with_statement}
 use Rattle.catalogue.specs.LimitTests.{has_great_number}
 
 abbrev pub IsNarrow : TableDef → Type 0

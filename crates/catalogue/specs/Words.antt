@@ -2,8 +2,8 @@
 use Rattle.std.specs.Prelude.{map}
 use Rattle.star_model.specs.declared.catalogue.SiteDef.{SiteDef}
 use Rattle.star_model.specs.declared.catalogue.ColumnDef.{ColumnDef}
-use Rattle.spelling.specs.Catalogues as statement
-use Rattle.spelling.specs.Catalogues.{CatalogueStatement, TablePart, IndexPart}
+use Rattle.catalogue.specs.Catalogues as statement
+use Rattle.catalogue.specs.Catalogues.{CatalogueStatement, TablePart, IndexPart}
 use Rattle.catalogue.specs.declared.words.SiteWords.{SiteWords}
 use Rattle.catalogue.specs.declared.words.ColumnWords.{ColumnWords}
 use Rattle.catalogue.specs.declared.words.TableWords.{TableWords}

@@ -2,7 +2,7 @@
 ghost use Rattle.std.specs.Prelude.{◌≡◌, ◌+◌, ◌<◌, ◌^◌, List as Seq, [], ◌∷◌, ◌++◌, length, map, MatchOption};
 ghost use Rattle.std.specs.List.{list_any};
 ghost use Rattle.std.specs.Str.{is_utf8};
-ghost use Rattle.spelling.specs.Catalogues.{CatalogueStatement, Table, Index};
+ghost use Rattle.catalogue.specs.Catalogues.{CatalogueStatement, Table, Index};
 ghost use Rattle.spelling.specs.Firsts.{NoneHas};
 ghost use Rattle.catalogue.specs.Words.{said, column_of, table_of, index_of};
 ghost use Rattle.catalogue.specs.Beyond.{IsBeyond};

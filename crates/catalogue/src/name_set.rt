@@ -1,6 +1,6 @@
 // Sets of names that are lent, in which a name is found without a look at each.
 ghost use Rattle.std.specs.Prelude.{◌≡◌, List as Seq, [], not, OnOk, IfOk};
-ghost use Rattle.spelling.specs.Names.{is_among};
+ghost use Rattle.star_model.specs.Names.{is_among};
 ghost use Rattle.catalogue.specs.NameSets.{with_name, has_pair, with_pair};
 
 use indexmap::IndexSet;

@@ -1,7 +1,7 @@
 // Statements that name what none before them defines, and statements that define a name twice.
 ghost use Rattle.std.specs.Prelude.{◌≡◌, ◌<◌, ◌^◌, List as Seq, [], ◌∷◌, ◌++◌, not, ◌||◌, length, map, OnOk, IfOk, MatchOption};
 ghost use Rattle.std.specs.List.{list_all};
-ghost use Rattle.spelling.specs.Catalogues.{CatalogueStatement};
+ghost use Rattle.catalogue.specs.Catalogues.{CatalogueStatement};
 ghost use Rattle.spelling.specs.Firsts.{FirstAt, NoneHas};
 ghost use Rattle.catalogue.specs.NameSets.{has_pair};
 ghost use Rattle.catalogue.specs.Words.{said};

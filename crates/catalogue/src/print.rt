@@ -1,10 +1,10 @@
 // Printing a catalogue.
-ghost use Rattle.std.specs.Prelude.{◌≡◌, ◌<◌, ◌∷◌, true, nat_lt, length, map, slice_get, Some, IfOk, OnOk};
+ghost use Rattle.std.specs.Prelude.{◌≡◌, ◌<◌, true, nat_lt, length, map, slice_get, Some, IfOk, OnOk};
 ghost use Rattle.std.specs.List.{list_all};
 ghost use Rattle.spelling.specs.Lexemes.{comma, joined_by, bracketed};
 ghost use Rattle.spelling.specs.Writing.{puts, ended, lines};
-ghost use Rattle.spelling.specs.Catalogues.{catalogue_lexemes, column_lexemes, name_lexemes, type_word, name_at, site_names, table_names, column_names, table_statement, index_statement, canonical};
-ghost use Rattle.spelling.specs.Catalogues as statement;
+ghost use Rattle.catalogue.specs.Catalogues.{catalogue_lexemes, column_lexemes, name_lexemes, type_word, name_at, site_names, column_names, table_statement, index_statement, canonical};
+ghost use Rattle.catalogue.specs.Catalogues as statement;
 ghost use Rattle.star_model.specs.WellFormed.{WellFormedCatalogue, WellFormedTable, WellFormedIndex};
 
 use spelling::Writer;

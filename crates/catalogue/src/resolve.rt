@@ -1,12 +1,13 @@
 // The catalogue that statements mean, once they are judged.
-ghost use Rattle.std.specs.Prelude.{◌≡◌, ◌≤◌, ◌<◌, false, List as Seq, [], ◌∷◌, ◌++◌, length, map, position, Some, IsSome, OnOk, IfOk};
+ghost use Rattle.std.specs.Prelude.{◌≡◌, ◌≤◌, ◌<◌, false, length, map, position, Some, IsSome, OnOk, IfOk};
 ghost use Rattle.star_model.specs.Vectors.{same_numbers};
 ghost use Rattle.std.specs.List.{list_any};
-ghost use Rattle.spelling.specs.Names.{place_of, all_of};
-ghost use Rattle.spelling.specs.Catalogues.{Site as SiteStatement, Table, Index, table_from, with_statement, catalogue_of};
+ghost use Rattle.star_model.specs.Names.{place_of};
+ghost use Rattle.spelling.specs.Names.{all_of};
+ghost use Rattle.catalogue.specs.Catalogues.{Site as SiteStatement, Table, Index, table_from, with_statement, catalogue_of};
 ghost use Rattle.catalogue.specs.Words.{said, site_of, column_of, table_of, index_of};
 ghost use Rattle.catalogue.specs.LimitTests.{is_great_column, has_great_number};
-ghost use Rattle.spelling.specs.Lexemes.{Every};
+ghost use Rattle.star_model.specs.Every.{Every};
 ghost use Rattle.catalogue.specs.Resolving.{CanBeAdded, IsNarrow, resolved_index};
 ghost use Rattle.catalogue.specs.Judged.{AreClear};
 

@@ -1,16 +1,19 @@
 // The laws of the definitions, each the clause of a function that does nothing.
 
-ghost use Rattle.std.specs.Prelude.{◌≡◌, ◌↔◌, ◌⊎◌, ℕ, List, None, Some, Result, Ok, Err};
+ghost use Rattle.std.specs.Prelude.{◌≡◌, ◌↔◌, ◌⊎◌, ℕ, List, None, Some, Result, Ok, Err, [], ◌∷◌, map};
 ghost use Rattle.sb_text.specs.Refusal.{fault_of};
 ghost use Rattle.star_model.specs.WellFormed.{WellFormedCatalogue};
 ghost use Rattle.star_model.specs.declared.catalogue.Catalogue.{Catalogue};
 ghost use Rattle.spelling.specs.Firsts.{NoneHas};
-ghost use Rattle.spelling.specs.Catalogues.{CatalogueStatement, catalogue_of, SpellsCatalogue, canonical};
+ghost use Rattle.catalogue.specs.Catalogues.{CatalogueStatement, catalogue_of, SpellsCatalogue, canonical, catalogue_statements, Site, Table, TablePart, table_from, catalogue_lexemes, SpellsCatalogueStatement};
 ghost use Rattle.catalogue.specs.declared.fault.CatFault.{CatFault};
 ghost use Rattle.catalogue.specs.declared.fault.CatFault.TheVariants.{Memory};
 ghost use Rattle.catalogue.specs.Defined.{NamesUnknown, DefinesTwice};
 ghost use Rattle.catalogue.specs.Beyond.{IsBeyond};
 ghost use Rattle.catalogue.specs.Faults.{SaysStatements, HasFault, IsFirstFault, IsAccepted, ReadsCatalogue};
+ghost use Rattle.spelling.specs.Lexemes.{Lexeme, IsStatements};
+ghost use Rattle.star_model.specs.Every.{HasItem};
+ghost use Rattle.star_model.specs.declared.catalogue.SiteDef.{SiteDef};
 
 /// One text has at most one first fault.
 pub fn one_fault()
@@ -38,4 +41,27 @@ pub fn spelled_catalogues_are_accepted()
 pub fn catalogues_are_read_back()
     ensures spelled { (text : List ℕ) (c : Catalogue) → SpellsCatalogue text c → WellFormedCatalogue c → (result : Result Catalogue CatFault) → ReadsCatalogue text result → (result ≡ Ok c) ⊎ (result ≡ Err Memory) }
     ensures printed { (c : Catalogue) → WellFormedCatalogue c → (result : Result Catalogue CatFault) → ReadsCatalogue (canonical c) result → (result ≡ Ok c) ⊎ (result ≡ Err Memory) }
+{}
+
+/// One text spells at most one catalogue, and so does each of its statements.
+pub fn one_catalogue()
+    ensures text { (text : List ℕ) (c d : Catalogue) → SpellsCatalogue text c → SpellsCatalogue text d → c ≡ d }
+    ensures statement { (lexemes : List Lexeme) (s t : CatalogueStatement) → SpellsCatalogueStatement lexemes s → SpellsCatalogueStatement lexemes t → s ≡ t }
+{}
+
+/// How a well-formed catalogue is written means it, and is what its canonical text has to say.
+pub fn catalogues_are_written()
+    ensures means { (c : Catalogue) → WellFormedCatalogue c → catalogue_of (catalogue_statements c) ≡ Some c }
+    ensures spelled { (c : Catalogue) → WellFormedCatalogue c → (text : List ℕ) → IsStatements text (map catalogue_lexemes (catalogue_statements c)) → SpellsCatalogue text c }
+{}
+
+/// The canonical text of a well-formed catalogue spells it.
+pub fn canonical_catalogues_spell()
+    ensures { (c : Catalogue) → WellFormedCatalogue c → SpellsCatalogue (canonical c) c }
+{}
+
+/// One site, and one table at it, are a catalogue.
+pub fn the_smallest_catalogue_is_spelled()
+    ensures { (text : List ℕ) (s : SiteDef) (t : TablePart) → t.site ≡ s.name → HasItem t.columns → IsStatements text (catalogue_lexemes (Site s) ∷ catalogue_lexemes (Table t) ∷ [])
+        → SpellsCatalogue text (record { sites = s ∷ []; tables = table_from 0 t ∷ []; indexes = [] }) }
 {}

@@ -1,7 +1,7 @@
 -- One more formula inside.
 use Rattle.std.proofs.Common.{◌≡◌, ℕ, zero, suc, ◌-◌, ◌<◌, None, List, ap, arith}
-use Rattle.spelling.specs.declared.words.FormulaWord.{FormulaWord}
-use Rattle.spelling.specs.FormulaReading.{whole_at, whole_by}
+use Rattle.cost_formula.specs.declared.formula_word.FormulaWord.{FormulaWord}
+use Rattle.cost_formula.specs.FormulaReading.{whole_at, whole_by}
 
 pub at_none : (n : ℕ) (ws : List FormulaWord) → n ≡ 0 → whole_at n ws ≡ None
 unfolding whole_at

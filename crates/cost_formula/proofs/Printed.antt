@@ -6,12 +6,12 @@ use Rattle.star_model.specs.declared.formula.Formula.TheVariants as made
 use Rattle.star_model.specs.declared.formula.Test.{Test}
 use Rattle.star_model.specs.declared.formula.Test.TheVariants as test
 use Rattle.star_model.specs.declared.formula.Var.{Var}
-use Rattle.spelling.specs.declared.words.FormulaWord.{FormulaWord}
-use Rattle.spelling.specs.declared.words.FormulaWord.TheVariants as w
+use Rattle.cost_formula.specs.declared.formula_word.FormulaWord.{FormulaWord}
+use Rattle.cost_formula.specs.declared.formula_word.FormulaWord.TheVariants as w
 use Rattle.spelling.specs.Lexemes.{Lexeme, Word, Number, Symbol, bracketed, comma}
-use Rattle.spelling.specs.FormulaGrammar.{Rank, Factor, Term, Sum}
-use Rattle.spelling.specs.FormulaCanonical.{rank_of, stands, in_brackets, words_of, words_of-Number, words_of-Variable, words_of-Add, words_of-Sub, words_of-Mul, words_of-Div, words_of-Min, words_of-Max, words_of-If}
-use Rattle.spelling.specs.Formulas.{variable_word, formula_lexeme, formula_lexemes}
+use Rattle.cost_formula.specs.FormulaGrammar.{Rank, Factor, Term, Sum}
+use Rattle.cost_formula.specs.FormulaCanonical.{rank_of, stands, in_brackets, words_of, words_of-Number, words_of-Variable, words_of-Add, words_of-Sub, words_of-Mul, words_of-Div, words_of-Min, words_of-Max, words_of-If}
+use Rattle.cost_formula.specs.Formulas.{variable_word, formula_lexeme, formula_lexemes}
 use Rattle.spelling.proofs.Laws.{puts-none, puts-more, puts-append, written-spaced}
 use Rattle.cost_formula.specs.Printing.{test_sign, operand_lexemes}
 

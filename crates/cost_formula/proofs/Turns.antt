@@ -2,9 +2,9 @@
 use Rattle.std.proofs.Common.{◌≡◌, ℕ, zero, suc, ◌+◌, ◌-◌, ◌<◌, List, Option, Some, None, option_and_then, sym, ap, ◌∙◌, arith}
 use Rattle.std.specs.Prelude.{Err}
 use Rattle.star_model.specs.declared.formula.Formula.{Formula}
-use Rattle.spelling.specs.declared.words.FormulaWord.{FormulaWord}
-use Rattle.spelling.specs.declared.words.Sign.{Sign}
-use Rattle.spelling.specs.FormulaReading.{Reader, goes_on, turn, joined}
+use Rattle.cost_formula.specs.declared.formula_word.FormulaWord.{FormulaWord}
+use Rattle.cost_formula.specs.declared.formula_word.Sign.{Sign}
+use Rattle.cost_formula.specs.FormulaReading.{Reader, goes_on, turn, joined}
 use Rattle.cost_formula.specs.declared.cursor.Stop.{Stop}
 use Rattle.cost_formula.specs.declared.cursor.Stop.TheVariants.{Memory, Unspelled}
 use Rattle.cost_formula.specs.Reading.{Reads, with_operand}

@@ -3,7 +3,7 @@ use Rattle.std.specs.Prelude.{ℕ, Result}
 use Rattle.std.specs.declared.alloc.Global.{Global}
 use denote.Ref.{MutBor}
 use Rattle.star_model.specs.declared.formula.Formula.{Formula}
-use Rattle.spelling.specs.FormulaReading.{whole_at}
+use Rattle.cost_formula.specs.FormulaReading.{whole_at}
 use Rattle.cost_formula.specs.declared.cursor.Stop.{Stop}
 use Rattle.cost_formula.specs.declared.cursor.WordCursor.{WordCursor}
 use Rattle.cost_formula.specs.Reading.{Reads}

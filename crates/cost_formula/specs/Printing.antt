@@ -4,9 +4,9 @@ use Rattle.star_model.specs.declared.formula.Formula.{Formula}
 use Rattle.star_model.specs.declared.formula.Test.{Test}
 use Rattle.star_model.specs.declared.formula.Test.TheVariants as test
 use Rattle.spelling.specs.Lexemes.{Lexeme}
-use Rattle.spelling.specs.FormulaGrammar as rule
-use Rattle.spelling.specs.FormulaCanonical.{rank_of, stands, in_brackets, words_of}
-use Rattle.spelling.specs.Formulas.{formula_lexeme}
+use Rattle.cost_formula.specs.FormulaGrammar as rule
+use Rattle.cost_formula.specs.FormulaCanonical.{rank_of, stands, in_brackets, words_of}
+use Rattle.cost_formula.specs.Formulas.{formula_lexeme}
 use Rattle.cost_formula.specs.declared.print.Rank.{Rank}
 use Rattle.cost_formula.specs.declared.print.Rank.TheVariants as rank
 

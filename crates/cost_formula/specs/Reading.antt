@@ -1,9 +1,9 @@
 -- What functions that read words answer.
 use Rattle.std.specs.Prelude.{◌≡◌, List, [], Option, Some, None, Result, Ok, Err}
 use Rattle.star_model.specs.declared.formula.Formula.{Formula}
-use Rattle.spelling.specs.declared.words.FormulaWord.{FormulaWord}
-use Rattle.spelling.specs.declared.words.Sign.{Sign}
-use Rattle.spelling.specs.FormulaReading.{Reader, ◌>>=◌, pure, joined}
+use Rattle.cost_formula.specs.declared.formula_word.FormulaWord.{FormulaWord}
+use Rattle.cost_formula.specs.declared.formula_word.Sign.{Sign}
+use Rattle.cost_formula.specs.FormulaReading.{Reader, ◌>>=◌, pure, joined}
 use Rattle.cost_formula.specs.declared.cursor.Stop.{Stop}
 use Rattle.cost_formula.specs.declared.cursor.Stop.TheVariants.{Memory, Unspelled}
 

@@ -1,10 +1,10 @@
 // Reading the words of a formula from the front.
 
 ghost use Rattle.std.specs.Prelude.{◌≡◌};
-ghost use Rattle.spelling.specs.FormulaReading.{after_open, after_close, after_comma, after_then, after_else, test_at, product_sign_of, sum_sign_of, next_of, is_conditional};
+ghost use Rattle.cost_formula.specs.FormulaReading.{after_open, after_close, after_comma, after_then, after_else, test_at, product_sign_of, sum_sign_of, next_of, is_conditional};
 ghost use Rattle.cost_formula.specs.Reading.{Reads};
 
-use spelling::words::{FormulaWord, Sign};
+use crate::formula_word::{FormulaWord, Sign};
 use star_model::formula::Test;
 use std::alloc::AllocError;
 

@@ -1,14 +1,15 @@
-//! Cost formulas: read from tokens, written in canonical form, and the whole numbers that they stand for.
+//! Cost formulas: which text spells one, how it is read and printed; and, from `formula_value`, what it comes to.
 #![tactic(auto)]
 
 mod cursor;
-mod evaluate;
+pub mod formula_word;
 mod nodes;
 mod print;
 mod read;
 mod rules;
+pub mod theorems;
 mod words;
 
-pub use evaluate::eval;
+pub use formula_value::eval;
 pub use print::{print_formula, write_formula};
 pub use read::read_formula;

@@ -2,9 +2,9 @@
 
 ghost use Rattle.std.specs.Prelude.{◌≡◌, IfOk};
 ghost use Rattle.star_model.specs.FormulaCases.{Min, Max, If};
-ghost use Rattle.spelling.specs.FormulaReading.{joined};
+ghost use Rattle.cost_formula.specs.FormulaReading.{joined};
 
-use spelling::words::Sign;
+use crate::formula_word::Sign;
 use sqlite_items::Boxed;
 use star_model::formula::{Formula, Test};
 use std::alloc::{AllocError, Global};

@@ -1,8 +1,8 @@
 // Printing a formula, with the fewest brackets.
 
 ghost use Rattle.std.specs.Prelude.{◌≡◌, ◌∷◌, ◌++◌, IfOk, OnOk};
-ghost use Rattle.spelling.specs.FormulaCanonical.{rank_of, stands};
-ghost use Rattle.spelling.specs.Formulas.{variable_word, formula_lexemes, canonical_formula};
+ghost use Rattle.cost_formula.specs.FormulaCanonical.{rank_of, stands};
+ghost use Rattle.cost_formula.specs.Formulas.{variable_word, formula_lexemes, canonical_formula};
 ghost use Rattle.spelling.specs.Lexemes.{Word, Symbol, bracketed, comma};
 ghost use Rattle.spelling.specs.Writing.{puts};
 ghost use Rattle.cost_formula.specs.Printing.{rule_of, test_sign, operand_lexemes};
@@ -21,7 +21,7 @@ enum Rank {
 }
 
 // The rule that makes a formula.
-#[tactic(auto, using(spelling::specs::FormulaCanonical::rank_of_cases))]
+#[tactic(auto, using(crate::specs::FormulaCanonical::rank_of_cases))]
 fn rank_of(formula: &Formula) -> Rank
     ensures { rule_of result ≡ rank_of formula.now }
 {

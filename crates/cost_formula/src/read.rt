@@ -1,19 +1,19 @@
 // Reading a formula from tokens.
 
-ghost use Rattle.std.specs.Prelude.{◌≡◌, ◌+◌, length, IfOk, IfSome, IfNone};
+ghost use Rattle.std.specs.Prelude.{◌+◌, length, IfOk, IfSome, IfNone};
 ghost use Rattle.spelling.specs.Cursors.{AreTokensOf};
 ghost use Rattle.spelling.specs.Lexemes.{lexemes_of};
-ghost use Rattle.spelling.specs.Formulas.{SpellsFormula};
-ghost use Rattle.spelling.specs.FormulaGrammar.{Spells, Whole};
-ghost use Rattle.spelling.specs.FormulaReading.{whole_at};
+ghost use Rattle.cost_formula.specs.Formulas.{SpellsFormula};
+ghost use Rattle.cost_formula.specs.FormulaGrammar.{Spells, Whole};
+ghost use Rattle.cost_formula.specs.FormulaReading.{whole_at};
 ghost use Rattle.star_model.specs.declared.formula.Formula.{Formula};
 ghost use Rattle.cost_formula.specs.Reading.{Reads, IsAllOf};
 
 use crate::cursor::{Stop, WordCursor};
+use crate::formula_word::FormulaWord;
 use crate::rules::Rules;
 use crate::words::words_of;
 use sb_text::Token;
-use spelling::words::FormulaWord;
 use star_model::formula::Formula;
 use std::alloc::{AllocError, Global};
 

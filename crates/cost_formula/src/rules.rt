@@ -1,12 +1,12 @@
 // Reading a formula by the rules of its grammar.
 
-ghost use Rattle.spelling.specs.FormulaReading.{whole_at, whole_by, pair_at, bracketed_at, factor_at, term_at, sum_at, comparison_at, branches_at, conditional_at};
+ghost use Rattle.cost_formula.specs.FormulaReading.{whole_at, whole_by, pair_at, bracketed_at, factor_at, term_at, sum_at, comparison_at, branches_at, conditional_at};
 ghost use Rattle.cost_formula.specs.Nests.{Nests};
 ghost use Rattle.cost_formula.specs.Reading.{Reads, with_operand};
 
 use crate::cursor::{Stop, WordCursor};
+use crate::formula_word::{FormulaWord, Sign};
 use crate::nodes::{chosen, greater, join, lesser};
-use spelling::words::{FormulaWord, Sign};
 use star_model::formula::{Formula, Test};
 use std::alloc::{AllocError, Global};
 
@@ -27,7 +27,7 @@ impl<F: Fn(Global, &mut WordCursor<'_>, usize) -> Result<Formula, Stop>> Rules<F
         (self.inner)(self.alloc, words, self.depth)
     }
 
-    #[tactic(auto, unfolding(spelling::specs::FormulaReading::pair_at))]
+    #[tactic(auto, unfolding(crate::specs::FormulaReading::pair_at))]
     fn pair(&self, words: &mut WordCursor<'_>) -> Result<(Formula, Formula), Stop>
         requires { Nests self.now.depth (F.pre self.now.inner) (F.post self.now.inner) }
         ensures { Reads (pair_at (whole_at self.now.depth) words.old.left.now) result words.new.left.now }
@@ -40,7 +40,7 @@ impl<F: Fn(Global, &mut WordCursor<'_>, usize) -> Result<Formula, Stop>> Rules<F
         Ok((x, y))
     }
 
-    #[tactic(auto, unfolding(spelling::specs::FormulaReading::bracketed_at))]
+    #[tactic(auto, unfolding(crate::specs::FormulaReading::bracketed_at))]
     fn bracketed(&self, words: &mut WordCursor<'_>) -> Result<Formula, Stop>
         requires { Nests self.now.depth (F.pre self.now.inner) (F.post self.now.inner) }
         ensures { Reads (bracketed_at (whole_at self.now.depth) words.old.left.now) result words.new.left.now }
@@ -50,7 +50,7 @@ impl<F: Fn(Global, &mut WordCursor<'_>, usize) -> Result<Formula, Stop>> Rules<F
         Ok(x)
     }
 
-    #[tactic(auto, unfolding(spelling::specs::FormulaReading::factor_at))]
+    #[tactic(auto, unfolding(crate::specs::FormulaReading::factor_at))]
     fn factor(&self, words: &mut WordCursor<'_>) -> Result<Formula, Stop>
         requires { Nests self.now.depth (F.pre self.now.inner) (F.post self.now.inner) }
         ensures { Reads (factor_at (whole_at self.now.depth) words.old.left.now) result words.new.left.now }
@@ -99,7 +99,7 @@ impl<F: Fn(Global, &mut WordCursor<'_>, usize) -> Result<Formula, Stop>> Rules<F
         Ok(join(self.alloc, sign, left, right)?)
     }
 
-    #[tactic(auto, unfolding(spelling::specs::FormulaReading::term_at))]
+    #[tactic(auto, unfolding(crate::specs::FormulaReading::term_at))]
     fn term(&self, words: &mut WordCursor<'_>) -> Result<Formula, Stop>
         requires { Nests self.now.depth (F.pre self.now.inner) (F.post self.now.inner) }
         ensures { Reads (term_at (whole_at self.now.depth) words.old.left.now) result words.new.left.now }
@@ -114,7 +114,7 @@ impl<F: Fn(Global, &mut WordCursor<'_>, usize) -> Result<Formula, Stop>> Rules<F
         Ok(left)
     }
 
-    #[tactic(auto, unfolding(spelling::specs::FormulaReading::sum_at))]
+    #[tactic(auto, unfolding(crate::specs::FormulaReading::sum_at))]
     fn sum(&self, words: &mut WordCursor<'_>) -> Result<Formula, Stop>
         requires { Nests self.now.depth (F.pre self.now.inner) (F.post self.now.inner) }
         ensures { Reads (sum_at (whole_at self.now.depth) words.old.left.now) result words.new.left.now }
@@ -129,7 +129,7 @@ impl<F: Fn(Global, &mut WordCursor<'_>, usize) -> Result<Formula, Stop>> Rules<F
         Ok(left)
     }
 
-    #[tactic(auto, unfolding(spelling::specs::FormulaReading::comparison_at))]
+    #[tactic(auto, unfolding(crate::specs::FormulaReading::comparison_at))]
     fn comparison(&self, words: &mut WordCursor<'_>) -> Result<(Formula, Test, Formula), Stop>
         requires { Nests self.now.depth (F.pre self.now.inner) (F.post self.now.inner) }
         ensures { Reads (comparison_at (whole_at self.now.depth) words.old.left.now) result words.new.left.now }
@@ -140,7 +140,7 @@ impl<F: Fn(Global, &mut WordCursor<'_>, usize) -> Result<Formula, Stop>> Rules<F
         Ok((x, test, y))
     }
 
-    #[tactic(auto, unfolding(spelling::specs::FormulaReading::branches_at))]
+    #[tactic(auto, unfolding(crate::specs::FormulaReading::branches_at))]
     fn branches(&self, words: &mut WordCursor<'_>) -> Result<(Formula, Formula), Stop>
         requires { Nests self.now.depth (F.pre self.now.inner) (F.post self.now.inner) }
         ensures { Reads (branches_at (whole_at self.now.depth) words.old.left.now) result words.new.left.now }
@@ -152,7 +152,7 @@ impl<F: Fn(Global, &mut WordCursor<'_>, usize) -> Result<Formula, Stop>> Rules<F
         Ok((yes, no))
     }
 
-    #[tactic(auto, unfolding(spelling::specs::FormulaReading::conditional_at))]
+    #[tactic(auto, unfolding(crate::specs::FormulaReading::conditional_at))]
     fn conditional(&self, words: &mut WordCursor<'_>) -> Result<Formula, Stop>
         requires { Nests self.now.depth (F.pre self.now.inner) (F.post self.now.inner) }
         ensures { Reads (conditional_at (whole_at self.now.depth) words.old.left.now) result words.new.left.now }
@@ -162,7 +162,7 @@ impl<F: Fn(Global, &mut WordCursor<'_>, usize) -> Result<Formula, Stop>> Rules<F
         Ok(chosen(self.alloc, test, x, y, yes, no)?)
     }
 
-    #[tactic(auto, unfolding(spelling::specs::FormulaReading::whole_by))]
+    #[tactic(auto, unfolding(crate::specs::FormulaReading::whole_by))]
     pub fn whole(&self, words: &mut WordCursor<'_>) -> Result<Formula, Stop>
         requires { Nests self.now.depth (F.pre self.now.inner) (F.post self.now.inner) }
         ensures { Reads (whole_by (whole_at self.now.depth) words.old.left.now) result words.new.left.now }

@@ -2,14 +2,13 @@
 
 ghost use Rattle.std.specs.Prelude.{◌≡◌, map, IfOk};
 ghost use Rattle.sb_text.specs.Reading.{IsTokenOf};
-ghost use Rattle.sb_text.specs.declared.token.TokenKind.TheVariants as kind;
 ghost use Rattle.spelling.specs.Cursors.{AreTokensOf};
 ghost use Rattle.spelling.specs.Lexemes.{lexeme_of, lexemes_of};
 ghost use Rattle.spelling.specs.Names.{found_in};
-ghost use Rattle.spelling.specs.Formulas.{formula_word, formula_symbols, formula_keywords, variable_rows, all_variables};
+ghost use Rattle.cost_formula.specs.Formulas.{formula_word, formula_symbols, formula_keywords, variable_rows, all_variables};
 
+use crate::formula_word::FormulaWord;
 use sb_text::{Token, TokenKind};
-use spelling::words::FormulaWord;
 use spelling::{Cursor, found_in};
 use star_model::formula::{Test, Var};
 use std::alloc::{AllocError, Global};
@@ -67,7 +66,7 @@ fn symbol(bytes: &[u8]) -> FormulaWord
 }
 
 // What a number stands for.
-#[tactic(auto, unfolding(spelling::specs::Formulas::formula_word))]
+#[tactic(auto, unfolding(crate::specs::Formulas::formula_word))]
 fn number(source: &[u8], token: &Token) -> FormulaWord
     requires token { IsTokenOf source.now token.now }
     requires number { token.now.kind ≡ TokenKind.Number }
@@ -81,7 +80,7 @@ fn number(source: &[u8], token: &Token) -> FormulaWord
 }
 
 // What a token stands for in a formula.
-#[tactic(auto, unfolding(spelling::specs::Formulas::formula_word))]
+#[tactic(auto, unfolding(crate::specs::Formulas::formula_word))]
 fn word_of(source: &[u8], token: &Token) -> FormulaWord
     requires { IsTokenOf source.now token.now }
     ensures { result ≡ formula_word (lexeme_of source.now token.now) }

@@ -1,3 +1,6 @@
 mod Steps
 mod Sets
 mod Runs
+pub mod Laws
+mod RootWriting
+mod RuleBodies

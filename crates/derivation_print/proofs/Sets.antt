@@ -3,7 +3,7 @@ use Rattle.std.proofs.Common.{◌≡◌, ℕ, zero, suc, ◌+◌, ◌-◌, ◌<�
 use Rattle.std.specs.List.{range_with_len}
 use Rattle.star_model.specs.Sets.{has, members, places}
 use Rattle.spelling.specs.Lexemes.{Lexeme, Number, left_brace, right_brace, comma, joined_by}
-use Rattle.spelling.specs.Derivations.{set_lexemes}
+use Rattle.derivation_reading.specs.Derivations.{set_lexemes}
 use Rattle.spelling.specs.Writing.{Written, put, puts}
 use Rattle.spelling.proofs.Laws.{puts-more, puts-none, puts-append}
 use Rattle.derivation_print.specs.Members.{member_lexemes}

@@ -6,7 +6,7 @@ use Rattle.star_model.specs.declared.plans.Goal as model
 use Rattle.star_model.specs.declared.rules.Flavour.{Flavour}
 use Rattle.star_model.specs.declared.derivations.Deriv.{Deriv}
 use Rattle.star_model.specs.declared.derivations.Deriv.TheVariants as made
-use Rattle.spelling.specs.Derivations.{Step, Glue, Goal, Reference, Operator, steps, statement_of, statements_of, steps-Glue, steps-Goal, steps-Reference, steps-Leaf, steps-Unary, steps-Binary}
+use Rattle.derivation_reading.specs.Derivations.{Step, Glue, Goal, Reference, Operator, steps, statement_of, statements_of, steps-Glue, steps-Goal, steps-Reference, steps-Leaf, steps-Unary, steps-Binary}
 use Rattle.spelling.specs.Writing.{Written, puts, ended, lines}
 use Rattle.spelling.proofs.Laws.{lines-more, lines-none, lines-append, lines-layout}
 

@@ -3,6 +3,7 @@
 
 mod members;
 mod print;
+pub mod theorems;
 
 pub use derivation_reading::{DerivFault, read_derivation};
 pub use print::print_derivation;

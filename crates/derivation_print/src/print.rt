@@ -1,15 +1,15 @@
 // Printing a derivation, a statement for each node, in preorder.
 
 ghost use Rattle.std.specs.Prelude.{◌≡◌, IfOk, OnOk};
-ghost use Rattle.spelling.specs.Derivations.{glue_word, set_lexemes, split_lexemes, statement_of, statements_of, canonical};
-ghost use Rattle.spelling.specs.Derivations as step;
+ghost use Rattle.derivation_reading.specs.Derivations.{glue_word, set_lexemes, split_lexemes, statement_of, statements_of, canonical};
+ghost use Rattle.derivation_reading.specs.Derivations as step;
 ghost use Rattle.derivation_print.specs.Members.{member_lexemes};
 ghost use Rattle.spelling.specs.Writing.{puts, ended, lines};
 
 use crate::members::Members;
 use spelling::Writer;
-use spelling::flavours::flavour_word;
 use star_model::derivations::Deriv;
+use star_model::flavours::flavour_word;
 use star_model::plans::{GlueOp, Goal};
 use star_model::rules::Flavour;
 use star_model::sets::QuantSet;

@@ -8,11 +8,12 @@ use Rattle.sb_text.specs.Tokens.{lexed}
 use Rattle.sb_text.specs.declared.token.TextFault.{TextFault}
 use Rattle.sb_text.specs.declared.token.TextFault.TheVariants as token_fault
 use Rattle.star_model.specs.declared.derivations.Deriv.{Deriv}
-use Rattle.spelling.specs.Lexemes.{MaybeEnded, statements_in, Every}
+use Rattle.spelling.specs.Lexemes.{MaybeEnded, statements_in}
+use Rattle.star_model.specs.Every.{Every}
 use Rattle.spelling.specs.Firsts.{FirstAt, NoneFrom, NoneHas}
 use Rattle.spelling.specs.FirstsCases.{one_first, none_first}
-use Rattle.spelling.specs.Derivations.{Step, IsStep, steps, HasInputs, BeginsGlue, InOrder, SpellsDerivation}
-use Rattle.spelling.proofs.Laws.{one_derivation}
+use Rattle.derivation_reading.specs.Derivations.{Step, IsStep, steps, HasInputs, BeginsGlue, InOrder, SpellsDerivation}
+use Rattle.derivation_reading.proofs.Laws.{one_derivation}
 use Rattle.derivation_reading.specs.declared.fault.DerivFault.{DerivFault}
 use Rattle.derivation_reading.specs.declared.fault.DerivFault.TheVariants.{Lexical, TooDeep, Syntax, TooTall, Memory}
 use Rattle.derivation_reading.specs.TextFaults.{of_text}

@@ -6,9 +6,9 @@ use Rattle.star_model.specs.declared.rules.Flavour.TheVariants as flavour
 use Rattle.star_model.specs.declared.derivations.Deriv.{Deriv}
 use Rattle.star_model.specs.declared.derivations.Deriv.TheVariants as made
 use Rattle.star_model.specs.DerivCases as d
-use Rattle.spelling.specs.Flavours.{inputs_of}
-use Rattle.spelling.specs.Lexemes.{Every}
-use Rattle.spelling.specs.Derivations.{Step, Glue, Goal, Reference, Operator, steps, HasInputs, is_glue, is_goal, BeginsGlue, InOrder}
+use Rattle.star_model.specs.Kinds.{inputs_of}
+use Rattle.star_model.specs.Every.{Every}
+use Rattle.derivation_reading.specs.Derivations.{Step, Glue, Goal, Reference, Operator, steps, HasInputs, is_glue, is_goal, BeginsGlue, InOrder}
 use Rattle.derivation_reading.specs.Places.{inputs, places_behind}
 use Rattle.derivation_reading.specs.Preorder.{Follow, AreWhole}
 use Rattle.derivation_reading.proofs.PlaceLaws.{places-append, may_stand-more}

@@ -4,7 +4,7 @@ use Rattle.std.specs.List.{range_with_len}
 use Rattle.std.proofs.lemmas.Bool.{ne_eqb, eq-eqb, cases_eq}
 use Rattle.star_model.specs.Sets.{has, members, places, single, union}
 use Rattle.star_model.proofs.Laws.{has-zero, has-union, has-single, same_set, union-lt, single-lt}
-use Rattle.spelling.specs.Derivations.{IsMask}
+use Rattle.derivation_reading.specs.Derivations.{IsMask}
 
 -- the numbers rise, from the least on, and are below 32
 abbrev pub IsRising : ℕ → List ℕ → Type 0

@@ -8,9 +8,9 @@ use Rattle.star_model.specs.declared.rules.Flavour.{Flavour}
 use Rattle.star_model.specs.declared.derivations.Deriv.{Deriv}
 use Rattle.star_model.specs.declared.derivations.Deriv.TheVariants as made
 use Rattle.star_model.specs.DerivCases.{made-Glue, made-Goal, made-Reference, made-Unary, made-Binary}
-use Rattle.spelling.specs.Flavours.{inputs_of}
-use Rattle.spelling.specs.Lexemes.{Every}
-use Rattle.spelling.specs.Derivations.{Step, Glue, Goal, Reference, Operator, steps, HasInputs, steps-Glue, steps-Goal, steps-Reference, steps-Leaf, steps-Unary, steps-Binary}
+use Rattle.star_model.specs.Kinds.{inputs_of}
+use Rattle.star_model.specs.Every.{Every}
+use Rattle.derivation_reading.specs.Derivations.{Step, Glue, Goal, Reference, Operator, steps, HasInputs, steps-Glue, steps-Goal, steps-Reference, steps-Leaf, steps-Unary, steps-Binary}
 use Rattle.derivation_reading.specs.Places.{inputs, places_behind}
 use Rattle.derivation_reading.specs.Preorder.{Follow, AreWhole}
 use Rattle.derivation_reading.specs.Piles.{pile_steps, Grows}

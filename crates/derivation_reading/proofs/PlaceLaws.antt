@@ -3,8 +3,8 @@ use Rattle.std.proofs.Common.{◌≡◌, ℕ, ◌+◌, ◌-◌, ◌<◌, ◌≤�
 use Rattle.std.proofs.lemmas.Bool.{lt-ltb, ltb-true, and_parts, not-true}
 use Rattle.star_model.specs.declared.rules.Flavour.{Flavour}
 use Rattle.star_model.specs.declared.rules.Flavour.TheVariants as flavour
-use Rattle.spelling.specs.Flavours.{inputs_of}
-use Rattle.spelling.specs.Derivations.{Step, Glue, Goal, Reference, Operator, is_glue, is_goal}
+use Rattle.star_model.specs.Kinds.{inputs_of}
+use Rattle.derivation_reading.specs.Derivations.{Step, Glue, Goal, Reference, Operator, is_glue, is_goal}
 use Rattle.derivation_reading.specs.Places.{inputs, places_behind, MayStand}
 use Rattle.derivation_reading.specs.PlaceTests.{awaited_behind, awaited, admits, takes}
 

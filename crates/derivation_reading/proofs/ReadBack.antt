@@ -14,15 +14,17 @@ use Rattle.star_model.specs.DerivCases as d
 use Rattle.star_model.specs.declared.plans.GlueOp.{GlueOp}
 use Rattle.spelling.specs.Cursors.{part_said}
 use Rattle.spelling.specs.Layout.{commented}
-use Rattle.spelling.specs.Lexemes.{Lexeme, Word, Number, MaybeEnded, ended, statements_in, comma, right_brace, joined_by, Every}
-use Rattle.spelling.specs.Derivations.{Step, Glue, Goal, Reference, Operator, glue_word, set_lexemes, split_lexemes, statement_of, statements_of, IsStep, NamesWord, steps, canonical, IsWritable, SpellsDerivation}
-use Rattle.spelling.proofs.Laws.{one_derivation, written_derivation, commented_derivation}
+use Rattle.spelling.specs.Lexemes.{Lexeme, Word, Number, MaybeEnded, ended, statements_in, comma, right_brace, joined_by}
+use Rattle.star_model.specs.Every.{Every}
+use Rattle.derivation_reading.specs.Derivations.{Step, Glue, Goal, Reference, Operator, glue_word, set_lexemes, split_lexemes, statement_of, statements_of, IsStep, NamesWord, steps, canonical, IsWritable, SpellsDerivation}
+use Rattle.derivation_reading.proofs.Laws.{one_derivation, written_derivation, commented_derivation}
 use Rattle.derivation_reading.specs.declared.fault.DerivFault.{DerivFault}
 use Rattle.derivation_reading.specs.declared.fault.DerivFault.TheVariants.{Lexical, TooDeep, Syntax, TooTall, Memory}
 use Rattle.derivation_reading.specs.Ancestors.{IsLow}
 use Rattle.derivation_reading.specs.Faults.{IsAccepted, ReadsDerivation}
 use Rattle.derivation_reading.proofs.MemberLaws.{rising_few, members-rise}
-use Rattle.derivation_reading.proofs.Shallow.{count_opens, IsShallow, no_deep_fault}
+use Rattle.spelling.specs.Shallow.{count_opens, IsShallow}
+use Rattle.spelling.proofs.Laws.{no_deep_fault}
 use Rattle.derivation_reading.proofs.FaultLaws.{spelled_clear}
 
 -- ---- the statements of a derivation are short

@@ -1,7 +1,8 @@
 -- Items up to a count are read as they are spelled, and nothing else is read.
 use Rattle.std.proofs.Common.{◌≡◌, ℕ, zero, suc, ◌≤◌, List, [], ◌∷◌, ◌++◌, map, length, Option, Some, None, sym, ap, ◌∙◌, arith, append_assoc, append-nil}
 use Rattle.std.proofs.lemmas.Option.{some_pair_parts}
-use Rattle.spelling.specs.Lexemes.{Lexeme, Every}
+use Rattle.spelling.specs.Lexemes.{Lexeme}
+use Rattle.star_model.specs.Every.{Every}
 use Rattle.spelling.specs.Reading.{Reader, ◌>>=◌, pure, given}
 use Rattle.spelling.specs.ReadingCases.{then_reads, choose, given_reads}
 use Rattle.derivation_reading.specs.StatementReading.{up_to}

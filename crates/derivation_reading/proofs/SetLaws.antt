@@ -4,7 +4,7 @@ use Rattle.std.proofs.lemmas.Bool.{lt-ltb, ltb-true, and_parts}
 use Rattle.std.proofs.lemmas.Option.{some_pair_parts}
 use Rattle.star_model.specs.Sets.{members, single, union}
 use Rattle.spelling.specs.Lexemes.{Lexeme, Number, left_brace, right_brace, comma, joined_by}
-use Rattle.spelling.specs.Derivations.{set_lexemes, IsMask}
+use Rattle.derivation_reading.specs.Derivations.{set_lexemes, IsMask}
 use Rattle.spelling.specs.Reading.{◌>>◌, pure, either, the_symbol, a_number, given}
 use Rattle.spelling.specs.ReadingCases.{then_reads, pass, choose, given_reads}
 use Rattle.spelling.proofs.Laws.{the_symbol_reads, a_number_reads}

@@ -4,11 +4,12 @@ use Rattle.std.proofs.lemmas.List.{map-append, length-map, length_push}
 use Rattle.sb_text.specs.declared.token.Token.{Token}
 use Rattle.sb_text.specs.Statements.{Part, parts}
 use Rattle.sb_text.specs.Refusal.{AreTokens}
-use Rattle.spelling.specs.Lexemes.{MaybeEnded, ended, statements_in, Every}
+use Rattle.spelling.specs.Lexemes.{MaybeEnded, ended, statements_in}
+use Rattle.star_model.specs.Every.{Every}
 use Rattle.spelling.specs.Cursors.{part_said, IsPartOf}
 use Rattle.spelling.specs.Firsts.{NoneHas}
 use Rattle.spelling.specs.FirstsCases.{none_more, first_is_new, first_stays}
-use Rattle.spelling.specs.Derivations.{Step, statement_of, IsStep}
+use Rattle.derivation_reading.specs.Derivations.{Step, statement_of, IsStep}
 use Rattle.spelling.proofs.Laws.{parts_said, parts_hold, parts_few}
 use Rattle.derivation_reading.specs.declared.places.Awaited.{Awaited}
 use Rattle.derivation_reading.specs.declared.places.Awaited.TheVariants as next

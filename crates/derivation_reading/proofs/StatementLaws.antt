@@ -11,10 +11,10 @@ use Rattle.star_model.specs.declared.plans.GlueOp.TheVariants as glue
 use Rattle.star_model.specs.declared.rules.Flavour.{Flavour}
 use Rattle.star_model.specs.declared.rules.Flavour.TheVariants as flavour
 use Rattle.star_model.proofs.Laws.{same_are}
-use Rattle.spelling.specs.Lexemes.{Lexeme, Word, Number, Every}
-use Rattle.spelling.specs.Flavours.{flavour_word}
-use Rattle.spelling.specs.RuleWords.{flavour_of}
-use Rattle.spelling.specs.Derivations.{Step, Glue, Goal, Reference, Operator, glue_word, set_lexemes, split_lexemes, statement_of, IsMask, IsCounted, AreMasks, IsStep}
+use Rattle.spelling.specs.Lexemes.{Lexeme, Word, Number}
+use Rattle.star_model.specs.Every.{Every}
+use Rattle.star_model.specs.FlavourWords.{flavour_word, flavour_of}
+use Rattle.derivation_reading.specs.Derivations.{Step, Glue, Goal, Reference, Operator, glue_word, set_lexemes, split_lexemes, statement_of, IsMask, IsCounted, AreMasks, IsStep}
 use Rattle.spelling.specs.Reading.{◌>>=◌, pure, given, the_word, a_word, a_number}
 use Rattle.spelling.specs.ReadingCases.{then_reads, pass, choose, given_reads}
 use Rattle.spelling.proofs.Laws.{the_word_reads, a_word_reads, a_number_reads}

@@ -6,9 +6,9 @@ use Rattle.star_model.specs.declared.rules.Flavour.{Flavour}
 use Rattle.star_model.specs.declared.derivations.Deriv.{Deriv}
 use Rattle.star_model.specs.declared.derivations.Deriv.TheVariants as made
 use Rattle.star_model.specs.DerivCases as d
-use Rattle.spelling.specs.Flavours.{inputs_of}
+use Rattle.star_model.specs.Kinds.{inputs_of}
 use Rattle.spelling.specs.Firsts.{FirstFrom, NoneFrom, FirstAt, NoneHas}
-use Rattle.spelling.specs.Derivations.{Step, Operator, steps, HasInputs}
+use Rattle.derivation_reading.specs.Derivations.{Step, Operator, steps, HasInputs}
 use Rattle.derivation_reading.specs.Places.{inputs}
 use Rattle.derivation_reading.specs.Ancestors.{ancestors, IsTooFar}
 use Rattle.derivation_reading.specs.OpenPlaces.{ancestors_of}

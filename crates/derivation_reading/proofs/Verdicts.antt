@@ -8,7 +8,7 @@ use Rattle.sb_text.specs.Depth.{first_too_deep}
 use Rattle.star_model.specs.declared.derivations.Deriv.{Deriv}
 use Rattle.spelling.specs.Lexemes.{Lexeme, MaybeEnded, statements_in}
 use Rattle.spelling.specs.Cursors.{part_said}
-use Rattle.spelling.specs.Derivations.{Step}
+use Rattle.derivation_reading.specs.Derivations.{Step}
 use Rattle.derivation_reading.specs.declared.fault.DerivFault.{DerivFault}
 use Rattle.derivation_reading.specs.declared.fault.DerivFault.TheVariants.{Lexical, TooDeep, Syntax, TooTall}
 use Rattle.derivation_reading.specs.declared.places.Awaited.{Awaited}

@@ -3,9 +3,10 @@ use Rattle.std.specs.Prelude.{◌≡◌, ℕ, ◌+◌, ◌<◌, ◌≤◌, ◌�
 use Rattle.sb_text.specs.Refusal.{fault_of}
 use Rattle.sb_text.specs.declared.token.TextFault.TheVariants as token_fault
 use Rattle.star_model.specs.declared.derivations.Deriv.{Deriv}
-use Rattle.spelling.specs.Lexemes.{MaybeEnded, ended, statements_in, Every}
+use Rattle.spelling.specs.Lexemes.{MaybeEnded, ended, statements_in}
+use Rattle.star_model.specs.Every.{Every}
 use Rattle.spelling.specs.Firsts.{FirstAt, NoneHas}
-use Rattle.spelling.specs.Derivations.{Step, statement_of, IsStep, SpellsDerivation}
+use Rattle.derivation_reading.specs.Derivations.{Step, statement_of, IsStep, SpellsDerivation}
 use Rattle.derivation_reading.specs.declared.fault.DerivFault.{DerivFault}
 use Rattle.derivation_reading.specs.declared.fault.DerivFault.TheVariants.{Lexical, TooDeep, Syntax, TooTall, Memory}
 use Rattle.derivation_reading.specs.Nodes.{SaysNode}

@@ -9,3 +9,4 @@ pub mod OpenPlaces
 pub mod StatementReading
 pub mod NodeReading
 pub mod TextFaults
+pub mod Derivations

@@ -1,8 +1,8 @@
 -- What a statement says of its node.
 use Rattle.std.specs.Prelude.{◌≡◌}
 use Rattle.spelling.specs.Lexemes.{MaybeEnded, ended}
-use Rattle.spelling.specs.Derivations.{Step, statement_of, IsStep}
-use Rattle.spelling.specs.Derivations as step
+use Rattle.derivation_reading.specs.Derivations.{Step, statement_of, IsStep}
+use Rattle.derivation_reading.specs.Derivations as step
 use Rattle.derivation_reading.specs.declared.nodes.Node.{Node}
 use Rattle.derivation_reading.specs.declared.nodes.Node.TheVariants as node
 

@@ -1,6 +1,6 @@
 -- How far down nodes stand, by the places that are left to fill.
 use Rattle.std.specs.Prelude.{ℕ, ◌+◌, List, [], ◌∷◌, ◌++◌, replicate}
-use Rattle.spelling.specs.Derivations.{Step}
+use Rattle.derivation_reading.specs.Derivations.{Step}
 use Rattle.derivation_reading.specs.Places.{inputs}
 
 -- how many ancestors each of these nodes has, in preorder, where a node has so many in each place, of which the next comes first

@@ -1,8 +1,8 @@
 -- Trees that are put down one on the other while a derivation is made.
 use Rattle.std.specs.Prelude.{◌≡◌, ◌+◌, List, [], ◌∷◌, ◌++◌, length}
 use Rattle.star_model.specs.declared.derivations.Deriv.{Deriv}
-use Rattle.spelling.specs.Lexemes.{Every}
-use Rattle.spelling.specs.Derivations.{Step, steps, HasInputs}
+use Rattle.star_model.specs.Every.{Every}
+use Rattle.derivation_reading.specs.Derivations.{Step, steps, HasInputs}
 use Rattle.derivation_reading.specs.Places.{inputs}
 
 -- the nodes of the trees, of which the last that was put down comes first

@@ -1,6 +1,6 @@
 -- The places of a derivation as they are counted while it is read.
 use Rattle.std.specs.Prelude.{ℕ, Bool, not, ◌&&◌, nat_lt, List, [], ◌∷◌, if◌then◌else◌}
-use Rattle.spelling.specs.Derivations.{Step, is_glue, is_goal}
+use Rattle.derivation_reading.specs.Derivations.{Step, is_glue, is_goal}
 use Rattle.derivation_reading.specs.declared.places.Awaited.{Awaited}
 use Rattle.derivation_reading.specs.declared.places.Awaited.TheVariants as next
 

@@ -1,7 +1,7 @@
 -- Which node may stand behind others, in preorder.
 use Rattle.std.specs.Prelude.{◌≡◌, ℕ, ◌+◌, ◌-◌, true, List, [], ◌∷◌}
-use Rattle.spelling.specs.Flavours.{inputs_of}
-use Rattle.spelling.specs.Derivations.{Step, Glue, Goal, Reference, Operator, is_glue, is_goal}
+use Rattle.star_model.specs.Kinds.{inputs_of}
+use Rattle.derivation_reading.specs.Derivations.{Step, Glue, Goal, Reference, Operator, is_glue, is_goal}
 
 -- how many nodes stand right below it
 abbrev pub inputs : Step → ℕ

@@ -1,7 +1,7 @@
 -- What the reading of all statements answers.
 use Rattle.std.specs.Prelude.{◌≡◌, ◌<◌, ◌≤◌, ℕ, List, [], ◌∷◌, ◌++◌, length, map, Result, Ok, Err}
 use Rattle.spelling.specs.Lexemes.{statements_in}
-use Rattle.spelling.specs.Derivations.{Step}
+use Rattle.derivation_reading.specs.Derivations.{Step}
 use Rattle.derivation_reading.specs.declared.fault.DerivFault.{DerivFault}
 use Rattle.derivation_reading.specs.declared.fault.DerivFault.TheVariants as fault
 use Rattle.derivation_reading.specs.declared.nodes.Node.{Node}

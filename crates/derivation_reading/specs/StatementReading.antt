@@ -5,8 +5,8 @@ use Rattle.star_model.specs.Vectors.{same_numbers}
 use Rattle.star_model.specs.declared.plans.GlueOp.{GlueOp}
 use Rattle.star_model.specs.declared.plans.GlueOp.TheVariants as glue
 use Rattle.spelling.specs.Reading.{Reader, ◌>>=◌, ◌>>◌, pure, given, the_word, the_symbol, a_word, a_number, either}
-use Rattle.spelling.specs.RuleWords.{flavour_of}
-use Rattle.spelling.specs.Derivations.{Step, Glue, Goal, Reference, Operator}
+use Rattle.star_model.specs.FlavourWords.{flavour_of}
+use Rattle.derivation_reading.specs.Derivations.{Step, Glue, Goal, Reference, Operator}
 
 -- ---- items up to a count
 

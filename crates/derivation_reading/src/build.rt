@@ -1,7 +1,7 @@
 // Making the derivation of its nodes.
 ghost use Rattle.std.specs.Prelude.{◌≡◌, ◌<◌, ◌≤◌, [], ◌∷◌, ◌++◌, length, map, IfOk};
-ghost use Rattle.spelling.specs.Derivations.{steps, HasInputs};
-ghost use Rattle.spelling.specs.Derivations as step;
+ghost use Rattle.derivation_reading.specs.Derivations.{steps, HasInputs};
+ghost use Rattle.derivation_reading.specs.Derivations as step;
 ghost use Rattle.derivation_reading.specs.Nodes.{said};
 ghost use Rattle.derivation_reading.specs.Places.{inputs};
 ghost use Rattle.derivation_reading.specs.Preorder.{AreWhole};

@@ -1,5 +1,5 @@
 // Nodes that stand too far down.
-ghost use Rattle.std.specs.Prelude.{◌≡◌, ◌≤◌, IfOk, MatchOption, [], ◌∷◌, length, map};
+ghost use Rattle.std.specs.Prelude.{◌≤◌, IfOk, MatchOption, [], ◌∷◌, length, map};
 ghost use Rattle.spelling.specs.Firsts.{FirstAt, NoneHas};
 ghost use Rattle.derivation_reading.specs.Nodes.{said};
 ghost use Rattle.derivation_reading.specs.Ancestors.{IsTooFar};

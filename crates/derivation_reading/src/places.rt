@@ -1,6 +1,6 @@
 // Which node may stand next.
-ghost use Rattle.std.specs.Prelude.{◌≡◌, ◌≤◌, ◌+◌, ◌-◌, ◌<◌, ◌^◌};
-ghost use Rattle.spelling.specs.Flavours.{inputs_of};
+ghost use Rattle.std.specs.Prelude.{◌≡◌, ◌+◌, ◌-◌, ◌<◌, ◌^◌};
+ghost use Rattle.star_model.specs.Kinds.{inputs_of};
 ghost use Rattle.derivation_reading.specs.Nodes.{said};
 ghost use Rattle.derivation_reading.specs.declared.places.Awaited.TheVariants as Awaited;
 ghost use Rattle.derivation_reading.specs.Places.{inputs};

@@ -1,5 +1,5 @@
 // Reading a statement.
-ghost use Rattle.std.specs.Prelude.{◌≡◌, option_map};
+ghost use Rattle.std.specs.Prelude.{option_map};
 ghost use Rattle.sb_text.specs.Statements.{part_of};
 ghost use Rattle.spelling.specs.Cursors.{AreTokensOf, part_said};
 ghost use Rattle.spelling.specs.Reading.{Reads};
@@ -11,10 +11,9 @@ use crate::chains::chain;
 use crate::nodes::Node;
 use crate::numbers::{counted_number, values};
 use crate::sets::set;
-use crate::unread::Unread;
 use sb_text::Statement;
-use spelling::Cursor;
-use spelling::flavours::flavour_of;
+use spelling::{Cursor, Unread};
+use star_model::flavours::flavour_of;
 use star_model::lists::Name;
 use star_model::plans::Goal;
 use star_model::sets::{PredSet, QuantSet};

@@ -5,13 +5,14 @@ ghost use Rattle.std.specs.List.{AllPass};
 ghost use Rattle.sb_text.specs.Front.{in_comment};
 ghost use Rattle.star_model.specs.Judging.{node_count};
 ghost use Rattle.star_model.specs.declared.derivations.Deriv.{Deriv};
-ghost use Rattle.spelling.specs.Layout.{commented};
-ghost use Rattle.spelling.specs.Lexemes.{Every};
-ghost use Rattle.spelling.specs.Derivations.{NamesWord, steps, canonical, IsWritable, SpellsDerivation};
+ghost use Rattle.spelling.specs.Layout.{commented, line};
+ghost use Rattle.star_model.specs.Every.{Every};
+ghost use Rattle.derivation_reading.specs.Derivations.{NamesWord, steps, canonical, IsWritable, SpellsDerivation};
 ghost use Rattle.derivation_reading.specs.declared.fault.DerivFault.{DerivFault};
 ghost use Rattle.derivation_reading.specs.declared.fault.DerivFault.TheVariants.{Memory};
 ghost use Rattle.derivation_reading.specs.Ancestors.{IsLow};
 ghost use Rattle.derivation_reading.specs.Faults.{IsFirstFault, IsAccepted, ReadsDerivation};
+ghost use Rattle.star_model.specs.Monotone.{nodes};
 
 /// One text has at most one first fault.
 pub fn one_fault()
@@ -46,4 +47,17 @@ pub fn derivations_are_read_back()
         → (result ≡ Ok tree) ⊎ (result ≡ Err Memory) }
     ensures commented { (line : List ℕ) (tree : Deriv) → AllPass in_comment line → IsWritable tree → Every NamesWord (steps tree) → IsLow tree → (result : Result Deriv DerivFault)
         → ReadsDerivation (commented line (canonical tree)) result → (result ≡ Ok tree) ⊎ (result ≡ Err Memory) }
+{}
+
+/// One text spells at most one derivation.
+pub fn one_spelled_derivation()
+    ensures { (text : List ℕ) (t u : Deriv) → SpellsDerivation text t → SpellsDerivation text u → t ≡ u }
+{}
+
+/// The canonical text of a derivation spells it where it can be written and its STARs are named by words, and where any text spells it.
+/// A comment on a line of its own before it makes no difference.
+pub fn canonical_derivations_spell()
+    ensures written { (tree : Deriv) → IsWritable tree → Every NamesWord (steps tree) → SpellsDerivation (canonical tree) tree }
+    ensures spelled { (text : List ℕ) (tree : Deriv) → SpellsDerivation text tree → SpellsDerivation (canonical tree) tree }
+    ensures commented { (line : List ℕ) (tree : Deriv) → AllPass in_comment line → IsWritable tree → Every NamesWord (steps tree) → SpellsDerivation (commented line (canonical tree)) tree }
 {}

@@ -9,7 +9,7 @@ use crate::arguments::flavour_of;
 use crate::inputs::Inputs;
 use crate::variables::{vars_but_widths, vars_of};
 use crate::width_names::lacks_width;
-use cost_formula::eval;
+use formula_value::eval;
 use star_model::costs::Costs;
 use star_model::formula::Formula;
 use star_model::num::Num;

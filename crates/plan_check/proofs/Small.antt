@@ -17,8 +17,8 @@ use Rattle.star_model.specs.declared.rules.StarDef.{StarDef}
 use Rattle.star_model.specs.declared.rules.ValueExpr.{ValueExpr}
 use Rattle.star_model.specs.declared.rules.RuleFile.{RuleFile}
 use Rattle.star_model.specs.declared.values.RuleValue.{RuleValue}
-use Rattle.spelling.specs.Lexemes.{Every}
-use Rattle.spelling.specs.RuleLimits.{WellFormedRules, KeepsStarLimits}
+use Rattle.star_model.specs.Every.{Every}
+use Rattle.star_model.specs.WellFormedRules.{WellFormedRules, KeepsStarLimits}
 use Rattle.plan_check.specs.Places.{IsPlace}
 
 -- what holds of every item holds of one that is found

@@ -4,7 +4,7 @@ use Rattle.sb_text.specs.Refusal.{fault_of}
 use Rattle.star_model.specs.declared.catalogue.Catalogue.{Catalogue}
 use Rattle.star_model.specs.declared.query.Query.{Query}
 use Rattle.star_model.specs.WellFormed.{WellFormedCatalogue, WellFormedQuery}
-use Rattle.spelling.specs.Queries.{SpellsQuery}
+use Rattle.query_graph.specs.Queries.{SpellsQuery}
 use Rattle.query_graph.specs.declared.fault.QueryFault.{QueryFault}
 use Rattle.query_graph.specs.Faults.{NamesUnknown, Says, HasFault}
 use Rattle.query_graph.proofs.FormedQuery.{parts_of, catalogue_is}

@@ -9,14 +9,16 @@ use Rattle.star_model.specs.declared.catalogue.Catalogue.{Catalogue}
 use Rattle.star_model.specs.declared.faults.LimitKind.{LimitKind}
 use Rattle.star_model.specs.declared.query.Query.{Query}
 use Rattle.star_model.specs.WellFormed.{WellFormedQuery}
-use Rattle.spelling.specs.Lexemes.{Lexeme, MaybeEnded, HasItem, statements_in, ended}
+use Rattle.spelling.specs.Lexemes.{Lexeme, MaybeEnded, statements_in, ended}
+use Rattle.star_model.specs.Every.{HasItem}
 use Rattle.spelling.specs.Firsts.{FirstAt, NoneHas}
 use Rattle.spelling.specs.FirstsCases.{one_first, none_first}
 use Rattle.spelling.specs.LimitsCases.{one_limit}
 use Rattle.spelling.specs.Limits.{IsFirstBeyond}
 use Rattle.spelling.specs.Syntax.{IsUnderstood}
-use Rattle.spelling.specs.Queries.{QueryStatement, query_lexemes, query_of, SpellsQueryStatement, SpellsQuery}
-use Rattle.spelling.proofs.Laws.{one_list, one_query_statement, one_query}
+use Rattle.query_graph.specs.Queries.{QueryStatement, query_lexemes, query_of, SpellsQueryStatement, SpellsQuery}
+use Rattle.spelling.proofs.Laws.{one_list}
+use Rattle.query_graph.proofs.Laws.{one_query_statement, one_query}
 use Rattle.query_graph.specs.declared.fault.QueryFault.{QueryFault}
 use Rattle.query_graph.specs.declared.fault.QueryFault.TheVariants as fault
 use Rattle.query_graph.specs.Syntax.{IsStrangeQueryAt}

@@ -22,11 +22,13 @@ use Rattle.star_model.specs.declared.query.Operand.TheVariants as operand
 use Rattle.star_model.specs.Predicates as predicates
 use Rattle.star_model.specs.Vectors.{same_numbers}
 use Rattle.star_model.specs.WellFormed.{differ, WellFormedCatalogue, WellFormedQuery, type_of, type_of_operand, type_of_value, is_there, is_operand, same_type}
-use Rattle.spelling.specs.Lexemes.{Lexeme, Word, Number, Text, Symbol, Every, HasItem, comma, joined_by}
+use Rattle.spelling.specs.Lexemes.{Lexeme, Word, Number, Text, Symbol, comma, joined_by}
+use Rattle.star_model.specs.Every.{Every, HasItem}
 use Rattle.spelling.specs.Firsts.{NoneFrom, NoneHas}
 use Rattle.spelling.specs.Limits.{HasLongWord}
-use Rattle.spelling.specs.Names.{place_of, all_of}
-use Rattle.spelling.specs.Queries.{ColumnName, Item, Side, OfColumn, OfConstant, Whole, Negative, Quoted, Constant, Comparison, QueryStatement, quantifier_name, quantifier_of, column_of, columns_of, operand_of, predicate_of, site_of, value_of, query_of, own_name, item_lexemes, columns_lexemes, where_lexemes, order_lexemes, at_lexemes, query_lexemes, IsQueryStatement}
+use Rattle.star_model.specs.Names.{place_of}
+use Rattle.spelling.specs.Names.{all_of}
+use Rattle.query_graph.specs.Queries.{ColumnName, Item, Side, OfColumn, OfConstant, Whole, Negative, Quoted, Constant, Comparison, QueryStatement, quantifier_name, quantifier_of, column_of, columns_of, operand_of, predicate_of, site_of, value_of, query_of, own_name, item_lexemes, columns_lexemes, where_lexemes, order_lexemes, at_lexemes, query_lexemes, IsQueryStatement}
 use Rattle.query_graph.specs.Faults.{quantifier_names, DefinesTwice, Beyond, IsGreat, IsGreatSide, HasGreatConstant, HasTwoTypes}
 use Rattle.query_graph.proofs.Found.{there, then_some, some_same, place_within, all_length, all_have, all_with}
 use Rattle.query_graph.proofs.Meaning.{table_names, quantifier_parts, names_of_quantifiers}

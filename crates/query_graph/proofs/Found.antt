@@ -7,8 +7,9 @@ use Rattle.std.proofs.lemmas.Bool.{and_parts, and_from, or_cases, not-true}
 use Rattle.std.proofs.lemmas.Option.{slice_get-map}
 use Rattle.star_model.specs.Vectors.{same_numbers}
 use Rattle.star_model.specs.WellFormed.{differ}
-use Rattle.spelling.specs.Lexemes.{Every}
-use Rattle.spelling.specs.Names.{place_of, is_among, all_of}
+use Rattle.star_model.specs.Every.{Every}
+use Rattle.star_model.specs.Names.{place_of, is_among}
+use Rattle.spelling.specs.Names.{all_of}
 use Rattle.query_graph.proofs.Lists.{same_numbers_comm, is_some-place_of}
 use Rattle.star_model.proofs.Laws.{same_are}
 

@@ -5,7 +5,7 @@ use Rattle.std.proofs.lemmas.List.Folds.{list_any-append}
 use Rattle.std.proofs.lemmas.Bool.{and_parts}
 use Rattle.indexmap.specs.IndexSet.{insert_key}
 use Rattle.star_model.specs.Vectors.{same_numbers}
-use Rattle.spelling.specs.Queries.{Item, quantifier_name}
+use Rattle.query_graph.specs.Queries.{Item, quantifier_name}
 use Rattle.star_model.proofs.Laws.{same_are}
 
 pub or-false : (a b : Bool) → (a || (b || false)) ≡ (a || b)

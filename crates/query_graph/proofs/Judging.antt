@@ -2,7 +2,7 @@
 use Rattle.std.proofs.Common.{◌≡◌, List, ℕ, None, Some, Err, sym, subst}
 use Rattle.sb_text.specs.Refusal.{fault_of}
 use Rattle.star_model.specs.declared.catalogue.Catalogue.{Catalogue}
-use Rattle.spelling.specs.Queries.{QueryStatement}
+use Rattle.query_graph.specs.Queries.{QueryStatement}
 use Rattle.query_graph.specs.declared.fault.QueryFault.{QueryFault}
 use Rattle.query_graph.specs.declared.fault.QueryFault.TheVariants as fault
 use Rattle.query_graph.specs.Faults.{Says, NamesUnknown, DefinesTwice, IsFirstFault, ReadsQuery}

@@ -21,3 +21,5 @@ mod FaultLaws
 mod Judging
 mod GoodQuery
 mod Clear
+mod QueryLaws
+mod SmallestText

@@ -8,7 +8,7 @@ use Rattle.star_model.specs.declared.faults.LimitKind.{LimitKind}
 use Rattle.star_model.specs.declared.faults.LimitKind.TheVariants as limit
 use Rattle.spelling.specs.Lexemes.{Lexeme, Word, Number, Text, Symbol, comma, joined_by}
 use Rattle.spelling.specs.Limits.{HasLongWord, IsFirstBeyond, limit_rank}
-use Rattle.spelling.specs.Queries.{QueryStatement, column_lexemes, item_lexemes, own_name, side_lexemes, comparison_lexemes, cmp_lexeme, columns_lexemes, where_lexemes, order_lexemes, at_lexemes, query_lexemes}
+use Rattle.query_graph.specs.Queries.{QueryStatement, column_lexemes, item_lexemes, own_name, side_lexemes, comparison_lexemes, cmp_lexeme, columns_lexemes, where_lexemes, order_lexemes, at_lexemes, query_lexemes}
 use Rattle.star_model.specs.declared.query.Cmp.{Cmp}
 use Rattle.star_model.specs.declared.query.Cmp.TheVariants as cmp
 use Rattle.query_graph.specs.declared.words.ColumnWords.{ColumnWords}

@@ -4,7 +4,7 @@ use Rattle.std.specs.List.{list_any, list_all, flat_map, position_from}
 use Rattle.std.proofs.lemmas.List.Folds.{list_all-append}
 use Rattle.std.proofs.lemmas.Cmp.{nat_list_eq_equiv}
 use Rattle.star_model.specs.Vectors.{same_numbers}
-use Rattle.spelling.specs.Names.{place_of, is_among}
+use Rattle.star_model.specs.Names.{place_of, is_among}
 
 pub same_numbers_comm : (a b : List ℕ) → same_numbers a b ≡ same_numbers b a
 same_numbers_comm a b = nat_list_eq_equiv.symm a b

@@ -15,8 +15,9 @@ use Rattle.star_model.specs.declared.query.Operand as model
 use Rattle.star_model.specs.declared.query.Operand.TheVariants as operand
 use Rattle.star_model.specs.Vectors.{same_numbers}
 use Rattle.star_model.specs.WellFormed.{differ, WellFormedCatalogue}
-use Rattle.spelling.specs.Names.{place_of, is_among, all_of}
-use Rattle.spelling.specs.Queries.{ColumnName, Item, Side, OfColumn, OfConstant, Comparison, QueryStatement, quantifier_name, quantifier_of, column_of, columns_of, operand_of, predicate_of, site_of, query_of}
+use Rattle.star_model.specs.Names.{place_of, is_among}
+use Rattle.spelling.specs.Names.{all_of}
+use Rattle.query_graph.specs.Queries.{ColumnName, Item, Side, OfColumn, OfConstant, Comparison, QueryStatement, quantifier_name, quantifier_of, column_of, columns_of, operand_of, predicate_of, site_of, query_of}
 use Rattle.query_graph.specs.Faults.{is_table, is_site, is_column, has_column, column_names, quantifier_names, side_columns, comparison_columns, columns_named, NamesUnknown, DefinesTwice}
 use Rattle.query_graph.specs.Faults as faults
 use Rattle.query_graph.proofs.Lists.{is_some-place_of, list_all-flat_map}

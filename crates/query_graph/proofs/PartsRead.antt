@@ -3,7 +3,7 @@ use Rattle.std.proofs.Common.{◌≡◌, ℕ, List, ◌∷◌, ◌++◌, Option,
 use Rattle.star_model.specs.declared.query.Cmp.{Cmp}
 use Rattle.star_model.specs.declared.query.Cmp.TheVariants as cmp
 use Rattle.spelling.specs.Lexemes.{Lexeme, Word, dot, comma}
-use Rattle.spelling.specs.Queries.{ColumnName, Item, Whole, Negative, Quoted, Side, OfColumn, OfConstant, Comparison, column_lexemes, own_name, item_lexemes, cmp_lexeme, side_lexemes, comparison_lexemes, IsFree, IsFreeIfAny, HasFreeQuantifier, HasFreeNames, IsFreeSide, ComparesFree}
+use Rattle.query_graph.specs.Queries.{ColumnName, Item, Whole, Negative, Quoted, Side, OfColumn, OfConstant, Comparison, column_lexemes, own_name, item_lexemes, cmp_lexeme, side_lexemes, comparison_lexemes, IsFree, IsFreeIfAny, HasFreeQuantifier, HasFreeNames, IsFreeSide, ComparesFree}
 use Rattle.spelling.specs.SeriesReadingCases.{IsRead}
 use Rattle.query_graph.specs.StatementReading.{free_word, column_at, own_name_at, item_at, cmp_at, negative_at, column_side_at, side_at, comparison_at}
 

@@ -5,8 +5,8 @@ use Rattle.std.proofs.lemmas.Option.{some_pair_parts}
 use Rattle.star_model.specs.declared.query.Cmp.{Cmp}
 use Rattle.star_model.specs.declared.query.Cmp.TheVariants as cmp
 use Rattle.spelling.specs.Lexemes.{Lexeme, Word, Number, Text, Symbol, dot}
-use Rattle.spelling.specs.Names.{is_among}
-use Rattle.spelling.specs.Queries.{ColumnName, Item, Whole, Negative, Quoted, Side, OfColumn, OfConstant, Comparison, column_lexemes, own_name, item_lexemes, cmp_lexeme, side_lexemes, comparison_lexemes, reserved_in_queries, IsFree, IsFreeIfAny, HasFreeQuantifier, HasFreeNames, IsFreeSide, ComparesFree}
+use Rattle.star_model.specs.Names.{is_among}
+use Rattle.query_graph.specs.Queries.{ColumnName, Item, Whole, Negative, Quoted, Side, OfColumn, OfConstant, Comparison, column_lexemes, own_name, item_lexemes, cmp_lexeme, side_lexemes, comparison_lexemes, reserved_in_queries, IsFree, IsFreeIfAny, HasFreeQuantifier, HasFreeNames, IsFreeSide, ComparesFree}
 use Rattle.spelling.specs.Reading.{pure, the_symbol, a_word, a_number, a_text}
 use Rattle.spelling.specs.ReadingCases.{pass, choose}
 use Rattle.spelling.proofs.Laws.{then_reads, the_symbol_reads, a_word_reads, a_number_reads, a_text_reads}

@@ -3,7 +3,7 @@ use Rattle.std.proofs.Common.{◌≡◌, ℕ, ◌+◌, Bool, cond, ltb, true, fa
 use Rattle.std.specs.List.{position_from, position_or_len}
 use Rattle.std.proofs.lemmas.Iterator.Adapters.{position_from-zero}
 use Rattle.star_model.specs.Vectors.{same_numbers}
-use Rattle.spelling.specs.Names.{place_of}
+use Rattle.star_model.specs.Names.{place_of}
 
 position_from-map : {A B : Type 0} (test : B → Bool) (f : A → B) (n : ℕ) (xs : List A) → position_from test n (map f xs) ≡ position_from (λ x. test (f x)) n xs
 position_from-map test f n [] = refl

@@ -1,7 +1,8 @@
 -- What spells a query is read as it.
 use Rattle.std.proofs.Common.{◌≡◌, ℕ, List, [], ◌∷◌, ◌++◌, map, Option, Some, None, refl, codes}
-use Rattle.spelling.specs.Lexemes.{Lexeme, Word, joined_by, comma, Every, HasItem}
-use Rattle.spelling.specs.Queries.{ColumnName, Item, Comparison, QueryStatement, column_lexemes, item_lexemes, comparison_lexemes, columns_lexemes, where_lexemes, order_lexemes, at_lexemes, query_lexemes, IsFreeIfAny, HasFreeQuantifier, HasFreeNames, ComparesFree, IsQueryStatement}
+use Rattle.spelling.specs.Lexemes.{Lexeme, Word, joined_by, comma}
+use Rattle.star_model.specs.Every.{Every, HasItem}
+use Rattle.query_graph.specs.Queries.{ColumnName, Item, Comparison, QueryStatement, column_lexemes, item_lexemes, comparison_lexemes, columns_lexemes, where_lexemes, order_lexemes, at_lexemes, query_lexemes, IsFreeIfAny, HasFreeQuantifier, HasFreeNames, ComparesFree, IsQueryStatement}
 use Rattle.spelling.specs.Reading.{the_word, the_symbol}
 use Rattle.spelling.specs.SeriesReadingCases.{series_read}
 use Rattle.spelling.proofs.Laws.{the_word_reads, the_symbol_reads}

@@ -2,8 +2,9 @@
 use Rattle.std.proofs.Common.{◌≡◌, ℕ, List, [], ◌∷◌, ◌++◌, map, Option, Some, None, refl, ap, sym, ◌∙◌, codes}
 use Rattle.std.proofs.lemmas.List.{append-nil}
 use Rattle.std.proofs.lemmas.Option.{some_pair_parts}
-use Rattle.spelling.specs.Lexemes.{Lexeme, Word, joined_by, comma, Every, HasItem}
-use Rattle.spelling.specs.Queries.{ColumnName, Item, Comparison, QueryStatement, column_lexemes, item_lexemes, comparison_lexemes, columns_lexemes, where_lexemes, order_lexemes, at_lexemes, IsFreeIfAny, HasFreeQuantifier, HasFreeNames, ComparesFree, SpellsQueryStatement}
+use Rattle.spelling.specs.Lexemes.{Lexeme, Word, joined_by, comma}
+use Rattle.star_model.specs.Every.{Every, HasItem}
+use Rattle.query_graph.specs.Queries.{ColumnName, Item, Comparison, QueryStatement, column_lexemes, item_lexemes, comparison_lexemes, columns_lexemes, where_lexemes, order_lexemes, at_lexemes, IsFreeIfAny, HasFreeQuantifier, HasFreeNames, ComparesFree, SpellsQueryStatement}
 use Rattle.spelling.specs.Reading.{the_word, the_symbol}
 use Rattle.spelling.specs.ReadingCases.{pass, choose}
 use Rattle.spelling.specs.SeriesReadingCases.{series_spelled}

@@ -7,7 +7,7 @@ use Rattle.std.specs.List.{list_any, list_all}
 use Rattle.indexmap.specs.IndexSet.{insert_key}
 use Rattle.star_model.specs.Vectors.{same_numbers}
 use Rattle.star_model.specs.WellFormed.{differ}
-use Rattle.spelling.specs.Queries.{quantifier_name}
+use Rattle.query_graph.specs.Queries.{quantifier_name}
 use Rattle.query_graph.specs.declared.words.ItemWords.{ItemWords}
 use Rattle.query_graph.specs.Words.{said_item}
 use Rattle.query_graph.specs.Faults.{quantifier_names}

@@ -1,7 +1,6 @@
 -- What columns and lists of names stand for.
-use Rattle.std.proofs.Common.{◌≡◌, ℕ, ◌+◌, ◌<◌, ◌≤◌, List, [], ◌∷◌, ◌++◌, length, map, take, drop, get_or, Option, Some, None, slice_get, refl, sym, ap, ◌∙◌, subst, inl, inr, arith, true, true≢false, Result, Ok, Err, OnOk, is_ok}
+use Rattle.std.proofs.Common.{◌≡◌, ℕ, ◌+◌, ◌<◌, ◌≤◌, List, [], ◌∷◌, ◌++◌, length, map, take, drop, get_or, Option, Some, None, slice_get, refl, sym, ap, ◌∙◌, subst, inl, inr, arith, true, true≢false, Result, Ok, Err, OnOk, is_ok, drop-cons}
 use Prim.Native.Nat.{zero, suc}
-use Rattle.std.proofs.Common.{drop-cons}
 use Rattle.std.specs.Option.{option_map}
 use Rattle.std.proofs.lemmas.Option.{slice_get-get_or}
 use Rattle.std.proofs.lemmas.List.{length-map, length-take-le, take_more, take-append-drop, map-append}
@@ -11,8 +10,9 @@ use Rattle.star_model.specs.declared.query.QuantDef.{QuantDef}
 use Rattle.query_graph.specs.declared.words.ComparisonWords.{ComparisonWords}
 use Rattle.query_graph.specs.Words.{said_side, said_comparison}
 use Rattle.query_graph.specs.Faults.{IsGreatSide, HasGreatConstant}
-use Rattle.spelling.specs.Names.{place_of, all_of}
-use Rattle.spelling.specs.Queries.{ColumnName, column_of}
+use Rattle.star_model.specs.Names.{place_of}
+use Rattle.spelling.specs.Names.{all_of}
+use Rattle.query_graph.specs.Queries.{ColumnName, column_of}
 
 -- what a read of a list says
 pub found_at : {A : Type 0} (xs : List A) (n : ℕ) (x : A) → n < length xs → x ≡ get_or xs n x → slice_get xs n ≡ Some x

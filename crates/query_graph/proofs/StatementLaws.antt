@@ -6,14 +6,15 @@ use Rattle.sb_text.specs.Tokens.{Lexed}
 use Rattle.sb_text.specs.Statements.{Part, parts, part_of}
 use Rattle.sb_text.specs.declared.statement.Statement.{Statement}
 use Rattle.sb_text.specs.declared.token.Token.{Token}
-use Rattle.spelling.specs.Lexemes.{MaybeEnded, Every, HasItem, ended, statements_in}
+use Rattle.spelling.specs.Lexemes.{MaybeEnded, ended, statements_in}
+use Rattle.star_model.specs.Every.{Every, HasItem}
 use Rattle.spelling.specs.Cursors.{AreTokensOf, part_said, IsPartOf}
 use Rattle.spelling.specs.ReadingCases.{only_reads}
 use Rattle.spelling.specs.Syntax.{IsUnderstood}
 use Rattle.spelling.specs.Firsts.{FirstAt}
 use Rattle.spelling.specs.FirstsCases.{one_first, none_first}
 use Prim.Native.Nat.{zero, suc}
-use Rattle.spelling.specs.Queries.{QueryStatement, query_lexemes, IsQueryStatement, SpellsQueryStatement}
+use Rattle.query_graph.specs.Queries.{QueryStatement, query_lexemes, IsQueryStatement, SpellsQueryStatement}
 use Rattle.spelling.specs.Reading.{only}
 use Rattle.spelling.proofs.Laws.{parts_said, parts_hold}
 use Rattle.query_graph.specs.StatementReading.{query_at, statement_at}

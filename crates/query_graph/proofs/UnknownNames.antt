@@ -9,8 +9,8 @@ use Rattle.indexmap.specs.IndexSet.{IndexSet}
 use Rattle.star_model.specs.declared.catalogue.Catalogue.{Catalogue}
 use Rattle.star_model.specs.declared.catalogue.TableDef.{TableDef}
 use Rattle.star_model.specs.Vectors.{same_numbers}
-use Rattle.spelling.specs.Names.{is_among}
-use Rattle.spelling.specs.Queries.{ColumnName, Item, Side, OfColumn, OfConstant, Comparison, QueryStatement, quantifier_name}
+use Rattle.star_model.specs.Names.{is_among}
+use Rattle.query_graph.specs.Queries.{ColumnName, Item, Side, OfColumn, OfConstant, Comparison, QueryStatement, quantifier_name}
 use Rattle.query_graph.specs.Faults.{is_column, has_column, is_table, column_names, side_columns, comparison_columns, columns_named, DefinesTwice, NamesUnknown, table, column, site}
 use Rattle.query_graph.specs.declared.fault.QueryFault.{QueryFault}
 use Rattle.query_graph.specs.declared.fault.QueryFault.TheVariants as fault

@@ -13,10 +13,10 @@ use Rattle.star_model.specs.declared.query.Pred.{Pred}
 use Rattle.star_model.specs.Vectors.{same_numbers}
 use Rattle.star_model.specs.WellFormed.{differ, type_of, type_of_operand, WellFormedQuery}
 use Rattle.spelling.specs.Lexemes.{IsStatements}
-use Rattle.spelling.specs.Names.{is_among}
+use Rattle.star_model.specs.Names.{is_among}
 use Rattle.spelling.specs.Firsts.{FirstAt}
 use Rattle.spelling.specs.Limits.{HasLongWord, IsFirstBeyond}
-use Rattle.spelling.specs.Queries.{ColumnName, Item, Constant, Whole, Negative, Quoted, Side, OfColumn, OfConstant, Comparison, QueryStatement, query_lexemes, IsQueryStatement, quantifier_name, SpellsQuery}
+use Rattle.query_graph.specs.Queries.{ColumnName, Item, Constant, Whole, Negative, Quoted, Side, OfColumn, OfConstant, Comparison, QueryStatement, query_lexemes, IsQueryStatement, quantifier_name, SpellsQuery}
 use Rattle.query_graph.specs.declared.fault.QueryFault.{QueryFault}
 use Rattle.query_graph.specs.declared.fault.QueryFault.TheVariants as fault
 use Rattle.query_graph.specs.Syntax.{IsStrangeQueryAt}

@@ -8,3 +8,4 @@ pub mod LimitTests
 pub mod TypeTests
 pub mod Fitting
 pub mod TextFaults
+pub mod Queries

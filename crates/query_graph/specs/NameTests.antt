@@ -4,7 +4,7 @@ use Rattle.std.specs.List.{list_all}
 use Rattle.star_model.specs.declared.catalogue.Catalogue.{Catalogue}
 use Rattle.star_model.specs.Vectors.{same_numbers}
 use Rattle.star_model.specs.WellFormed.{differ}
-use Rattle.spelling.specs.Queries.{QueryStatement}
+use Rattle.query_graph.specs.Queries.{QueryStatement}
 use Rattle.query_graph.specs.declared.fault.QueryFault.{QueryFault}
 use Rattle.query_graph.specs.declared.fault.QueryFault.TheVariants as fault
 use Rattle.query_graph.specs.Faults.{is_table, is_site, is_column, columns_named, quantifier_names}

@@ -6,8 +6,8 @@ use Rattle.indexmap.specs.IndexSet.{IndexSet, contains_by}
 use Rattle.star_model.specs.declared.catalogue.Catalogue.{Catalogue}
 use Rattle.star_model.specs.declared.catalogue.TableDef.{TableDef}
 use Rattle.star_model.specs.Vectors.{same_numbers}
-use Rattle.spelling.specs.Names.{is_among}
-use Rattle.spelling.specs.Queries.{ColumnName, Item, Side, OfColumn, OfConstant, Comparison, QueryStatement, quantifier_name}
+use Rattle.star_model.specs.Names.{is_among}
+use Rattle.query_graph.specs.Queries.{ColumnName, Item, Side, OfColumn, OfConstant, Comparison, QueryStatement, quantifier_name}
 use Rattle.query_graph.specs.Faults.{column_names, is_table}
 use Rattle.query_graph.specs.NameTests.{is_site_if_any}
 

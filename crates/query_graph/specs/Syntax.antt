@@ -1,9 +1,10 @@
 -- Which statement of a query's text isn't understood.
 use Rattle.std.specs.Prelude.{◌≡◌, ℕ, ◌⊎◌, List, []}
-use Rattle.spelling.specs.Lexemes.{HasItem, statements_in}
+use Rattle.star_model.specs.Every.{HasItem}
+use Rattle.spelling.specs.Lexemes.{statements_in}
 use Rattle.spelling.specs.Firsts.{FirstAt}
 use Rattle.spelling.specs.Syntax.{IsUnderstood}
-use Rattle.spelling.specs.Queries.{SpellsQueryStatement}
+use Rattle.query_graph.specs.Queries.{SpellsQueryStatement}
 
 -- the number, from 1, of the statement that isn't understood: the first one where there is none at all, one that spells no query, or
 -- a second one

@@ -8,7 +8,7 @@ use Rattle.query_graph.specs.declared.words.SideWords.{SideWords}
 use Rattle.query_graph.specs.declared.words.SideWords.TheVariants as side
 use Rattle.query_graph.specs.declared.words.ComparisonWords.{ComparisonWords}
 use Rattle.query_graph.specs.declared.words.QueryWords.{QueryWords}
-use Rattle.spelling.specs.Queries.{ColumnName, Item, Constant, Whole, Negative, Quoted, Side, OfColumn, OfConstant, Comparison, QueryStatement}
+use Rattle.query_graph.specs.Queries.{ColumnName, Item, Constant, Whole, Negative, Quoted, Side, OfColumn, OfConstant, Comparison, QueryStatement}
 
 abbrev pub said_column : ColumnWords → ColumnName
 said_column c = record { quantifier = c.quantifier; column = c.column }

@@ -1,13 +1,12 @@
 // Reading names and columns.
 ghost use Rattle.std.specs.Prelude.{◌≡◌, map};
-ghost use Rattle.spelling.specs.Queries.{reserved_in_queries};
-ghost use Rattle.spelling.specs.Names.{is_among};
+ghost use Rattle.query_graph.specs.Queries.{reserved_in_queries};
+ghost use Rattle.star_model.specs.Names.{is_among};
 ghost use Rattle.query_graph.specs.Words.{said_column};
 ghost use Rattle.query_graph.specs.StatementReading.{Answers, free_word, column_at, columns_at};
 
-use crate::unread::Unread;
 use crate::words::ColumnWords;
-use spelling::Cursor;
+use spelling::{Cursor, Unread};
 use star_model::lists::{List, Name};
 use std::alloc::Global;
 

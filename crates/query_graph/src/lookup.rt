@@ -1,6 +1,6 @@
 // Where names stand among what is defined.
 ghost use Rattle.std.specs.Prelude.{◌≡◌, ◌<◌, length, map, IfSome};
-ghost use Rattle.spelling.specs.Names.{place_of};
+ghost use Rattle.star_model.specs.Names.{place_of};
 
 use star_model::catalogue::{Catalogue, TableDef};
 use star_model::query::QuantDef;

@@ -3,7 +3,7 @@ ghost use Rattle.std.specs.Prelude.{◌≡◌, ◌≤◌, ℕ, List, length, Non
 ghost use Rattle.sb_text.specs.Refusal.{AreTokens, fault_of};
 ghost use Rattle.star_model.specs.declared.faults.LimitKind.{LimitKind};
 ghost use Rattle.star_model.specs.WellFormed.{WellFormedCatalogue};
-ghost use Rattle.spelling.specs.Queries.{query_of};
+ghost use Rattle.query_graph.specs.Queries.{query_of};
 ghost use Rattle.query_graph.specs.Words.{said};
 ghost use Rattle.query_graph.specs.NameTests.{name_fault};
 ghost use Rattle.query_graph.specs.Faults.{NamesUnknown, DefinesTwice, Beyond, Says, ReadsQuery};

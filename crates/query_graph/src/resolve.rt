@@ -2,7 +2,7 @@
 ghost use Rattle.std.specs.Prelude.{◌≡◌, ◌≤◌, ◌<◌, length, map, IfOk, IfSome, Some, None, pos, neg_ℤ};
 ghost use Rattle.star_model.specs.WellFormed.{WellFormedCatalogue};
 ghost use Rattle.spelling.specs.Names.{all_of};
-ghost use Rattle.spelling.specs.Queries.{quantifier_of, column_of, columns_of, operand_of, predicate_of, site_of, value_of, query_of};
+ghost use Rattle.query_graph.specs.Queries.{quantifier_of, column_of, columns_of, operand_of, predicate_of, site_of, value_of, query_of};
 ghost use Rattle.query_graph.specs.Words.{said_column, said_item, said_constant, said_side, said_comparison, said};
 ghost use Rattle.query_graph.specs.Faults.{IsGreat, IsGreatSide, HasGreatConstant};
 ghost use Rattle.query_graph.specs.Fitting.{Fits};
@@ -209,7 +209,7 @@ fn site_of(catalogue: &Catalogue, site: &Option<Name>) -> Option<Option<Site>>
 }
 
 /// The query that the statement means; none where it names what isn't defined.
-#[tactic(auto, unfolding(spelling::specs::Queries::query_of))]
+#[tactic(auto, unfolding(crate::specs::Queries::query_of))]
 pub fn query_of(
     alloc: Global,
     catalogue: &Catalogue,

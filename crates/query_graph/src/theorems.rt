@@ -1,15 +1,18 @@
 // The laws of the definitions, each the clause of a function that does nothing.
 
-ghost use Rattle.std.specs.Prelude.{◌≡◌, ℕ, List, None, Some};
+ghost use Rattle.std.specs.Prelude.{◌≡◌, ℕ, List, None, Some, [], ◌∷◌};
 ghost use Rattle.sb_text.specs.Refusal.{fault_of};
 ghost use Rattle.star_model.specs.WellFormed.{WellFormedCatalogue, WellFormedQuery};
 ghost use Rattle.star_model.specs.declared.catalogue.Catalogue.{Catalogue};
 ghost use Rattle.star_model.specs.declared.faults.LimitKind.{LimitKind};
 ghost use Rattle.star_model.specs.declared.query.Query.{Query};
 ghost use Rattle.spelling.specs.Firsts.{NoneHas};
-ghost use Rattle.spelling.specs.Queries.{QueryStatement, IsQueryStatement, query_of, SpellsQuery};
+ghost use Rattle.query_graph.specs.Queries.{QueryStatement, IsQueryStatement, query_of, SpellsQuery, only_column, query_lexemes, IsFree, SpellsQueryStatement};
 ghost use Rattle.query_graph.specs.declared.fault.QueryFault.{QueryFault};
 ghost use Rattle.query_graph.specs.Faults.{NamesUnknown, DefinesTwice, Beyond, HasTwoTypes, Says, HasFault, IsFirstFault, IsAccepted};
+ghost use Rattle.spelling.specs.Lexemes.{Lexeme, IsStatements};
+ghost use Rattle.star_model.specs.declared.catalogue.TableDef.{TableDef};
+ghost use Rattle.star_model.specs.declared.catalogue.ColumnDef.{ColumnDef};
 
 /// Over a catalogue one text has at most one first fault.
 pub fn one_fault()
@@ -34,4 +37,22 @@ pub fn clear_statements_mean_queries()
 /// A text that spells a well-formed query has no fault, unless its tokens have one.
 pub fn well_formed_queries_have_no_fault()
     ensures { (c : Catalogue) (text : List ℕ) (query : Query) → fault_of text ≡ None → SpellsQuery c text query → WellFormedQuery query → (fault : QueryFault) → HasFault c text fault → ⊥ }
+{}
+
+/// One text spells at most one query over a catalogue.
+pub fn one_query()
+    ensures text { (catalogue : Catalogue) (text : List ℕ) (q r : Query) → SpellsQuery catalogue text q → SpellsQuery catalogue text r → q ≡ r }
+    ensures statement { (lexemes : List Lexeme) (q r : QueryStatement) → SpellsQueryStatement lexemes q → SpellsQueryStatement lexemes r → q ≡ r }
+{}
+
+/// A query is over the catalogue that it was read against.
+pub fn queries_keep_their_catalogue()
+    ensures { (catalogue : Catalogue) (text : List ℕ) (query : Query) → SpellsQuery catalogue text query → query.catalogue ≡ catalogue }
+{}
+
+/// What a statement spells that selects the only column of the only table.
+pub fn the_smallest_query_is_spelled()
+    ensures { (catalogue : Catalogue) (text : List ℕ) (t : TableDef) (c : ColumnDef) → catalogue.tables ≡ t ∷ [] → t.columns ≡ c ∷ [] → IsFree t.name
+        → IsStatements text (query_lexemes (only_column t.name c.name) ∷ [])
+        → SpellsQuery catalogue text (record { catalogue = catalogue; quants = record { name = t.name; table = 0 } ∷ []; select = record { quant = record { 0 = 0 }; column = 0 } ∷ []; preds = []; order = []; site = None }) }
 {}

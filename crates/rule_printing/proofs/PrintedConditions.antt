@@ -6,7 +6,8 @@ use Rattle.star_model.specs.declared.rules.ValueExpr.{ValueExpr}
 use Rattle.star_model.specs.declared.rules.Condition.{Condition}
 use Rattle.star_model.specs.declared.rules.Condition.TheBlock.{hidden-the_row-Condition-0}
 use Rattle.star_model.specs.declared.rules.Condition.TheVariants as made
-use Rattle.spelling.specs.Values.{call, value_lexemes, condition_lexemes}
+use Rattle.rule_grammar.specs.Values.{value_lexemes, condition_lexemes}
+use Rattle.spelling.specs.Lexemes.{call}
 use Rattle.spelling.proofs.Laws.{puts-none, puts-more, puts-append}
 
 pub lexemes-Empty : (v : ValueExpr) → condition_lexemes (made.Empty v) ≡ call (codes "empty") (value_lexemes v ∷ [])

@@ -3,7 +3,7 @@ use Rattle.std.proofs.Common.{◌≡◌, ℕ, suc, ◌+◌, ◌<◌, ◌≤◌, 
 use Rattle.std.proofs.lemmas.List.{drop_all}
 use Rattle.star_model.specs.declared.rules.RuleFile.{RuleFile}
 use Rattle.spelling.specs.Lexemes.{Lexeme}
-use Rattle.spelling.specs.Rules.{definition_lexemes, definitions, rule_lexemes, canonical}
+use Rattle.rule_grammar.specs.Rules.{definition_lexemes, definitions, rule_lexemes, canonical}
 use Rattle.spelling.specs.Writing.{Written, whole, puts, ended, lines}
 use Rattle.spelling.proofs.Laws.{lines-more, lines-none, lines-layout}
 use Rattle.rule_printing.specs.declared.print.Statement.{Statement}

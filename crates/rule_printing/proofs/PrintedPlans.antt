@@ -8,10 +8,10 @@ use Rattle.star_model.specs.declared.rules.ValueExpr.{ValueExpr}
 use Rattle.star_model.specs.declared.rules.PlanExpr.{PlanExpr}
 use Rattle.star_model.specs.declared.rules.PlanExpr.TheBlock.{hidden-the_row-PlanExpr-0}
 use Rattle.star_model.specs.declared.rules.PlanExpr.TheVariants as made
-use Rattle.spelling.specs.Lexemes.{Lexeme, Word, comma, joined_by, bracketed}
-use Rattle.spelling.specs.Flavours.{flavour_word}
-use Rattle.spelling.specs.Values.{call, value_lexemes}
-use Rattle.spelling.specs.Rules.{plan_lexemes}
+use Rattle.spelling.specs.Lexemes.{Lexeme, Word, comma, joined_by, bracketed, call}
+use Rattle.star_model.specs.FlavourWords.{flavour_word}
+use Rattle.rule_grammar.specs.Values.{value_lexemes}
+use Rattle.rule_grammar.specs.Rules.{plan_lexemes}
 use Rattle.spelling.proofs.Laws.{puts-none, puts-more, puts-append, joined-first}
 use Rattle.rule_printing.specs.Printing.{further_lexemes}
 

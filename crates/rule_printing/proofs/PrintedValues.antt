@@ -5,8 +5,8 @@ use denote.Hole.Carrier.{hidden}
 use Rattle.star_model.specs.declared.rules.ValueExpr.{ValueExpr}
 use Rattle.star_model.specs.declared.rules.ValueExpr.TheBlock.{hidden-the_row-ValueExpr-0}
 use Rattle.star_model.specs.declared.rules.ValueExpr.TheVariants as made
-use Rattle.spelling.specs.Lexemes.{Word}
-use Rattle.spelling.specs.Values.{call, in_squares, value_lexemes}
+use Rattle.spelling.specs.Lexemes.{Word, call}
+use Rattle.rule_grammar.specs.Values.{in_squares, value_lexemes}
 use Rattle.spelling.proofs.Laws.{puts-none, puts-more, puts-append}
 
 pub lexemes-Variable : (name : List ℕ) (place : ℕ) → value_lexemes (made.Variable name place) ≡ Word name ∷ []

@@ -7,12 +7,12 @@ use Rattle.std.proofs.lemmas.List.Sorted.{IsPermutation-refl, IsPermutation-cons
 use Rattle.std.proofs.lemmas.List.Elements.{All-nil, All-cons, All-head, All-tail}
 use Rattle.std.proofs.lemmas.List.{map-append}
 use Rattle.star_model.specs.WellFormed.{differ}
-use Rattle.spelling.specs.Lexemes.{Every}
+use Rattle.star_model.specs.Every.{Every}
 use Rattle.star_model.specs.declared.rules.FormulaDef.{FormulaDef}
 use Rattle.star_model.specs.declared.rules.StarDef.{StarDef}
 use Rattle.star_model.specs.declared.rules.RuleFile.{RuleFile}
-use Rattle.spelling.specs.Rules.{Definition, OfFormula, OfStar, number_of, put_in, in_order, definitions}
-use Rattle.spelling.specs.RuleLimits.{statement_numbers}
+use Rattle.rule_grammar.specs.Rules.{Definition, OfFormula, OfStar, number_of, put_in, in_order, definitions}
+use Rattle.star_model.specs.WellFormedRules.{statement_numbers}
 use Rattle.rule_printing.specs.declared.print.Statement.{Statement}
 use Rattle.rule_printing.specs.Printing.{definition_of}
 

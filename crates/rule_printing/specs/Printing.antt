@@ -3,8 +3,8 @@ use Rattle.std.specs.Prelude.{List, ◌∷◌}
 use Rattle.std.specs.List.{flat_map}
 use Rattle.star_model.specs.declared.rules.ValueExpr.{ValueExpr}
 use Rattle.spelling.specs.Lexemes.{Lexeme, comma}
-use Rattle.spelling.specs.Values.{value_lexemes}
-use Rattle.spelling.specs.Rules.{Definition, OfFormula, OfStar, definition_lexemes}
+use Rattle.rule_grammar.specs.Values.{value_lexemes}
+use Rattle.rule_grammar.specs.Rules.{Definition, OfFormula, OfStar, definition_lexemes}
 use Rattle.rule_printing.specs.declared.print.Statement.{Statement}
 use Rattle.rule_printing.specs.declared.print.Statement.TheVariants as statement
 

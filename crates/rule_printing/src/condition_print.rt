@@ -1,7 +1,8 @@
 // Printing ranges and conditions.
 
 ghost use Rattle.std.specs.Prelude.{◌≡◌, [], ◌∷◌, OnOk};
-ghost use Rattle.spelling.specs.Values.{call, range_lexemes, condition_lexemes};
+ghost use Rattle.rule_grammar.specs.Values.{range_lexemes, condition_lexemes};
+ghost use Rattle.spelling.specs.Lexemes.{call};
 ghost use Rattle.spelling.specs.Writing.{puts};
 
 use crate::value_print::{print_binary, print_unary};

@@ -1,13 +1,13 @@
 // Printing a plan.
 
 ghost use Rattle.std.specs.Prelude.{◌≡◌, OnOk};
-ghost use Rattle.spelling.specs.Rules.{plan_lexemes};
+ghost use Rattle.rule_grammar.specs.Rules.{plan_lexemes};
 ghost use Rattle.spelling.specs.Writing.{puts};
 ghost use Rattle.rule_printing.specs.Printing.{further_lexemes};
 
 use crate::value_print::{Values, print_binary};
-use spelling::flavours::flavour_word;
 use spelling::{Writer, print_behind, print_call};
+use star_model::flavours::flavour_word;
 use star_model::rules::{PlanExpr, ValueExpr};
 use std::alloc::AllocError;
 

@@ -2,15 +2,15 @@
 
 ghost use Rattle.std.specs.Prelude.{◌≡◌, true, nat_eq, ◌++◌, map, IfOk, OnOk};
 ghost use Rattle.star_model.specs.WellFormed.{differ};
-ghost use Rattle.spelling.specs.RuleLimits.{statement_numbers};
-ghost use Rattle.spelling.specs.Rules.{OfFormula, OfStar, number_of, formula_def_lexemes, definitions, canonical};
+ghost use Rattle.star_model.specs.WellFormedRules.{statement_numbers};
+ghost use Rattle.rule_grammar.specs.Rules.{OfFormula, OfStar, number_of, formula_def_lexemes, definitions, canonical};
 ghost use Rattle.spelling.specs.Writing.{puts, lines};
 ghost use Rattle.rule_printing.specs.Printing.{definition_of, statement_lexemes};
 
 use crate::star_print::print_star;
 use cost_formula::write_formula;
 use spelling::Writer;
-use spelling::flavours::{flavour_word, which_word};
+use star_model::flavours::{flavour_word, which_word};
 use star_model::rules::{FormulaDef, RuleFile, StarDef};
 use std::alloc::{AllocError, Global};
 

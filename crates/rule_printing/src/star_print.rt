@@ -1,13 +1,13 @@
 // Printing a STAR.
 
 ghost use Rattle.std.specs.Prelude.{◌≡◌, OnOk};
-ghost use Rattle.spelling.specs.Rules.{parameter_lexemes, for_lexemes, when_lexemes, alternative_lexemes, star_lexemes};
+ghost use Rattle.rule_grammar.specs.Rules.{parameter_lexemes, for_lexemes, when_lexemes, alternative_lexemes, star_lexemes};
 ghost use Rattle.spelling.specs.Writing.{puts};
 
 use crate::condition_print::{print_condition, print_range};
 use crate::plan_print::print_plan;
-use spelling::flavours::kind_word;
 use spelling::{Printer, Writer, print_call, print_joined, print_run};
+use star_model::flavours::kind_word;
 use star_model::rules::{Alternative, Condition, ForAll, Param, StarDef};
 use std::alloc::AllocError;
 

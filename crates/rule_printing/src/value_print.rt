@@ -1,8 +1,8 @@
 // Printing a value.
 
 ghost use Rattle.std.specs.Prelude.{◌≡◌, [], ◌∷◌, ◌++◌, OnOk};
-ghost use Rattle.spelling.specs.Lexemes.{Word, comma};
-ghost use Rattle.spelling.specs.Values.{call, in_squares, value_lexemes};
+ghost use Rattle.spelling.specs.Lexemes.{Word, comma, call};
+ghost use Rattle.rule_grammar.specs.Values.{in_squares, value_lexemes};
 ghost use Rattle.spelling.specs.Writing.{puts};
 
 use spelling::{Printer, Writer};

@@ -1,8 +1,8 @@
 -- One more value or condition inside.
 use Rattle.std.proofs.Common.{◌≡◌, ℕ, zero, suc, ◌-◌, ◌<◌, None, List, ap, arith}
 use Rattle.spelling.specs.Lexemes.{Lexeme}
-use Rattle.spelling.specs.ValueReading.{value_at, value_by}
-use Rattle.spelling.specs.ConditionReading.{condition_at, condition_by}
+use Rattle.rule_grammar.specs.ValueReading.{value_at, value_by}
+use Rattle.rule_grammar.specs.ConditionReading.{condition_at, condition_by}
 
 module _ (scope : List (List ℕ)) where
   pub no_value : (n : ℕ) (ws : List Lexeme) → n ≡ 0 → value_at scope n ws ≡ None

@@ -3,13 +3,14 @@ use Rattle.std.proofs.Common.{◌≡◌, ◌<◌, ◌≤◌, ℕ, zero, suc, tru
 use Rattle.std.specs.Option.{is_some, IfNone}
 use Rattle.star_model.specs.declared.rules.ForAll.{ForAll}
 use Rattle.spelling.specs.Lexemes.{Lexeme, Word}
-use Rattle.spelling.specs.Values.{range_lexemes}
+use Rattle.rule_grammar.specs.Values.{range_lexemes}
 use Rattle.spelling.specs.Reading.{Reads, the_word}
-use Rattle.spelling.specs.StarReading.{with_ranges, for_all_at, ranges_behind, ranges_at}
-use Rattle.spelling.proofs.Laws.{the_word_reads, for_all_spelled}
-use Rattle.rule_reading.specs.declared.unread.Unread.{Unread}
-use Rattle.rule_reading.specs.declared.unread.Unread.TheVariants.{Strange, Memory}
-use Rattle.rule_reading.specs.Answers.{Answers}
+use Rattle.rule_grammar.specs.StarReading.{with_ranges, for_all_at, ranges_behind, ranges_at}
+use Rattle.spelling.proofs.Laws.{the_word_reads}
+use Rattle.rule_grammar.proofs.Laws.{for_all_spelled}
+use Rattle.spelling.specs.declared.unread.Unread.{Unread}
+use Rattle.spelling.specs.declared.unread.Unread.TheVariants.{Strange, Memory}
+use Rattle.spelling.specs.Answers.{Answers}
 
 -- these are done, and what is left is read behind them
 pub record Going (parameters : List (List ℕ)) (depth : ℕ) (all : List Lexeme) (done : List ForAll) (left : List Lexeme) : Type 0 where

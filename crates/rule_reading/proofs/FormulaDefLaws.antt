@@ -5,11 +5,11 @@ use Rattle.sb_text.specs.declared.token.Token.{Token}
 use Rattle.star_model.specs.declared.formula.Formula.{Formula}
 use Rattle.star_model.specs.declared.rules.FormulaDef.{FormulaDef}
 use Rattle.spelling.specs.Lexemes.{Lexeme, Word, lexemes_of, equals}
-use Rattle.spelling.specs.Flavours.{which_word, flavour_word}
-use Rattle.spelling.specs.Formulas.{SpellsFormula}
-use Rattle.spelling.specs.FormulaHeads.{FormulaHead, formula_head_at}
-use Rattle.spelling.specs.Rules.{SpellsFormulaDef}
-use Rattle.spelling.proofs.Laws.{formula_head_reads}
+use Rattle.star_model.specs.FlavourWords.{which_word, flavour_word}
+use Rattle.cost_formula.specs.Formulas.{SpellsFormula}
+use Rattle.rule_grammar.specs.FormulaHeads.{FormulaHead, formula_head_at}
+use Rattle.rule_grammar.specs.Rules.{SpellsFormulaDef}
+use Rattle.rule_grammar.proofs.Laws.{formula_head_reads}
 
 abbrev head_of : FormulaDef → FormulaHead
 head_of d = record { which = d.which; flavour = d.flavour }

@@ -1,13 +1,15 @@
 -- The parts of STARs, as items of lists.
 use Rattle.std.proofs.Common.{ℕ, List, codes}
 use Rattle.spelling.specs.Lexemes.{comma, bar}
-use Rattle.spelling.specs.Values.{IsName, value_lexemes, IsValue}
-use Rattle.spelling.specs.Rules.{alternative_lexemes, IsAlternative, parameter_lexemes}
+use Rattle.star_model.specs.WellFormedRules.{IsName, IsValue, IsAlternative}
+use Rattle.rule_grammar.specs.Values.{value_lexemes}
+use Rattle.rule_grammar.specs.Rules.{alternative_lexemes, parameter_lexemes}
 use Rattle.spelling.specs.Reading.{the_symbol}
 use Rattle.spelling.specs.SeriesReadingCases.{Spells, Separates}
-use Rattle.spelling.specs.ValueReading.{value_at}
-use Rattle.spelling.specs.StarReading.{alternative_at, parameter_at}
-use Rattle.spelling.proofs.Laws.{the_symbol_reads, value_is_spelled, alternative_spelled, parameter_spelled}
+use Rattle.rule_grammar.specs.ValueReading.{value_at}
+use Rattle.rule_grammar.specs.StarReading.{alternative_at, parameter_at}
+use Rattle.spelling.proofs.Laws.{the_symbol_reads}
+use Rattle.rule_grammar.proofs.Laws.{value_is_spelled, alternative_spelled, parameter_spelled}
 
 pub commas : Separates (the_symbol (codes ",")) comma
 commas = the_symbol_reads (codes ",")

@@ -4,7 +4,7 @@ use Rattle.std.specs.Prelude.{◌||◌}
 use Rattle.std.specs.List.{position_or_len, list_any}
 use Rattle.std.proofs.lemmas.Iterator.Adapters.{position_from-zero}
 use Rattle.star_model.specs.Vectors.{same_numbers}
-use Rattle.spelling.specs.Names.{place_of}
+use Rattle.star_model.specs.Names.{place_of}
 
 -- what `position` answers where it looks for a name
 pub found-place : (name : List ℕ) (names : List (List ℕ)) (r : Option ℕ)

@@ -1,8 +1,8 @@
 -- One more plan inside.
 use Rattle.std.proofs.Common.{◌≡◌, ℕ, zero, suc, ◌-◌, ◌<◌, None, List, ap, arith}
 use Rattle.spelling.specs.Lexemes.{Lexeme}
-use Rattle.spelling.specs.ValueReading.{value_at}
-use Rattle.spelling.specs.PlanReading.{plan_at, plan_by}
+use Rattle.rule_grammar.specs.ValueReading.{value_at}
+use Rattle.rule_grammar.specs.PlanReading.{plan_at, plan_by}
 
 pub at_none : (scope : List (List ℕ)) (n : ℕ) (lexemes : List Lexeme) → n ≡ 0 → plan_at scope n lexemes ≡ None
 unfolding plan_at

@@ -5,16 +5,17 @@ use Rattle.std.specs.Option.{is_some, IfNone}
 use Rattle.std.proofs.lemmas.Option.{some_pair_parts}
 use Rattle.star_model.specs.declared.rules.ValueExpr.{ValueExpr}
 use Rattle.star_model.specs.ValueCases.{WithTemp}
-use Rattle.spelling.specs.declared.words.RequirementHead.{RequirementHead}
-use Rattle.spelling.specs.declared.words.RequirementHead.TheVariants as requirement
+use Rattle.rule_grammar.specs.declared.words.RequirementHead.{RequirementHead}
+use Rattle.rule_grammar.specs.declared.words.RequirementHead.TheVariants as requirement
 use Rattle.spelling.specs.Lexemes.{Lexeme}
-use Rattle.spelling.specs.Values.{value_lexemes}
+use Rattle.rule_grammar.specs.Values.{value_lexemes}
 use Rattle.spelling.specs.Reading.{Reader, ◌>>=◌, Reads, the_symbol, a_word}
-use Rattle.spelling.specs.ValueReading.{value_at, valued_of, required_at, requiring, requirement_at, requirement_head, turn, requirements_at}
-use Rattle.spelling.proofs.Laws.{the_symbol_reads, a_word_reads, then_reads, value_is_spelled}
-use Rattle.rule_reading.specs.declared.unread.Unread.{Unread}
-use Rattle.rule_reading.specs.declared.unread.Unread.TheVariants.{Strange, Memory}
-use Rattle.rule_reading.specs.Answers.{Answers}
+use Rattle.rule_grammar.specs.ValueReading.{value_at, valued_of, required_at, requiring, requirement_at, requirement_head, turn, requirements_at}
+use Rattle.spelling.proofs.Laws.{the_symbol_reads, a_word_reads, then_reads}
+use Rattle.rule_grammar.proofs.Laws.{value_is_spelled}
+use Rattle.spelling.specs.declared.unread.Unread.{Unread}
+use Rattle.spelling.specs.declared.unread.Unread.TheVariants.{Strange, Memory}
+use Rattle.spelling.specs.Answers.{Answers}
 
 -- so far this value was read, and requirements may follow
 pub record Goes (inner : Reader ValueExpr) (all : Option (ValueExpr × List Lexeme)) (t : ValueExpr) (left : List Lexeme) : Type 0 where

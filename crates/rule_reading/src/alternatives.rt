@@ -1,20 +1,19 @@
 // Reading the alternatives of STARs.
 ghost use Rattle.std.specs.Prelude.{map};
-ghost use Rattle.spelling.specs.StarReading.{when_at, body_at, conditional_body_at, alternative_at, alternatives_at};
-ghost use Rattle.rule_reading.specs.Answers.{Answers};
+ghost use Rattle.rule_grammar.specs.StarReading.{when_at, body_at, conditional_body_at, alternative_at, alternatives_at};
+ghost use Rattle.spelling.specs.Answers.{Answers};
 
 use crate::conditions::condition;
 use crate::for_alls::ranges;
 use crate::plans::plan;
 use crate::scope::Scope;
-use crate::unread::Unread;
-use spelling::{Cursor, paired};
+use spelling::{Cursor, Unread, paired};
 use star_model::lists::List;
 use star_model::rules::{Alternative, Condition, Param, PlanExpr};
 use std::alloc::Global;
 
 // The condition, where there is one.
-#[tactic(auto, unfolding(spelling::specs::StarReading::when_at))]
+#[tactic(auto, unfolding(rule_grammar::specs::StarReading::when_at))]
 fn when(
     alloc: Global,
     scope: &Scope<'_>,
@@ -31,7 +30,7 @@ fn when(
 }
 
 // The plan behind `give`.
-#[tactic(auto, unfolding(spelling::specs::StarReading::body_at))]
+#[tactic(auto, unfolding(rule_grammar::specs::StarReading::body_at))]
 fn body(
     alloc: Global,
     scope: &Scope<'_>,
@@ -45,7 +44,7 @@ fn body(
 }
 
 // What stands behind the for-all clauses: the condition, where there is one, and the plan.
-#[tactic(auto, unfolding(spelling::specs::StarReading::conditional_body_at))]
+#[tactic(auto, unfolding(rule_grammar::specs::StarReading::conditional_body_at))]
 fn conditional_body(
     alloc: Global,
     scope: &Scope<'_>,
@@ -60,7 +59,7 @@ fn conditional_body(
 }
 
 // An alternative of a STAR with these parameters.
-#[tactic(auto, unfolding(spelling::specs::StarReading::alternative_at))]
+#[tactic(auto, unfolding(rule_grammar::specs::StarReading::alternative_at))]
 fn alternative(
     alloc: Global,
     params: &[Param],
@@ -81,7 +80,7 @@ fn alternative(
 }
 
 /// The alternatives of a STAR with these parameters, with bars between.
-#[tactic(auto, unfolding(spelling::specs::StarReading::alternatives_at))]
+#[tactic(auto, unfolding(rule_grammar::specs::StarReading::alternatives_at))]
 pub fn alternatives(
     alloc: Global,
     params: &[Param],

@@ -1,14 +1,13 @@
 // Reading the arguments of operators and references.
 ghost use Rattle.std.specs.Prelude.{◌≡◌};
-ghost use Rattle.spelling.specs.Rules.{arguments_of};
-ghost use Rattle.spelling.specs.ValueReading.{value_at};
-ghost use Rattle.spelling.specs.PlanReading.{counted, arguments_at, own_arguments_at, more_arguments_at};
-ghost use Rattle.rule_reading.specs.Answers.{Answers};
+ghost use Rattle.star_model.specs.WellFormedRules.{arguments_of};
+ghost use Rattle.rule_grammar.specs.ValueReading.{value_at};
+ghost use Rattle.rule_grammar.specs.PlanReading.{counted, arguments_at, own_arguments_at, more_arguments_at};
+ghost use Rattle.spelling.specs.Answers.{Answers};
 
 use crate::scope::Scope;
-use crate::unread::Unread;
 use crate::values::value;
-use spelling::Cursor;
+use spelling::{Cursor, Unread};
 use star_model::lists::List;
 use star_model::rules::{Flavour, ValueExpr};
 use std::alloc::Global;
@@ -38,7 +37,7 @@ fn counted(flavour: Flavour, arguments: List<ValueExpr>) -> Option<List<ValueExp
 }
 
 /// Values with commas between.
-#[tactic(auto, unfolding(spelling::specs::PlanReading::arguments_at))]
+#[tactic(auto, unfolding(rule_grammar::specs::PlanReading::arguments_at))]
 pub fn arguments(
     alloc: Global,
     scope: &Scope<'_>,
@@ -58,7 +57,7 @@ pub fn arguments(
 }
 
 /// As many values with commas between as the operator takes, and the bracket behind them.
-#[tactic(auto, unfolding(spelling::specs::PlanReading::own_arguments_at))]
+#[tactic(auto, unfolding(rule_grammar::specs::PlanReading::own_arguments_at))]
 pub fn own_arguments(
     alloc: Global,
     scope: &Scope<'_>,
@@ -74,7 +73,7 @@ pub fn own_arguments(
 }
 
 /// The arguments of an operator behind its plans.
-#[tactic(auto, unfolding(spelling::specs::PlanReading::more_arguments_at))]
+#[tactic(auto, unfolding(rule_grammar::specs::PlanReading::more_arguments_at))]
 pub fn more_arguments(
     alloc: Global,
     scope: &Scope<'_>,

@@ -1,9 +1,9 @@
 // Making conditions of their parts.
 ghost use Rattle.std.specs.Prelude.{◌≡◌};
 ghost use Rattle.star_model.specs.ConditionCases.{Not};
-ghost use Rattle.spelling.specs.ConditionReading.{unary_of, binary_of, junction_of};
+ghost use Rattle.rule_grammar.specs.ConditionReading.{unary_of, binary_of, junction_of};
 
-use spelling::words::{BinaryTest, Junction, UnaryTest};
+use rule_grammar::words::{BinaryTest, Junction, UnaryTest};
 use sqlite_items::Boxed;
 use star_model::rules::{Condition, ValueExpr};
 

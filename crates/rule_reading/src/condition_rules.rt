@@ -1,17 +1,16 @@
 // Reading a condition by the rules of its grammar.
-ghost use Rattle.spelling.specs.ValueReading.{value_at, one_at, last_two_at, two_at};
-ghost use Rattle.spelling.specs.ConditionReading.{condition_at, condition_by, conditional};
-ghost use Rattle.rule_reading.specs.Answers.{Answers};
+ghost use Rattle.rule_grammar.specs.ValueReading.{value_at, one_at, last_two_at, two_at};
+ghost use Rattle.rule_grammar.specs.ConditionReading.{condition_at, condition_by, conditional};
+ghost use Rattle.spelling.specs.Answers.{Answers};
 ghost use Rattle.rule_reading.specs.Nests.{NestsConditions};
 
 use crate::condition_nodes::{binary, join, negation, unary};
 use crate::heads::condition_head;
 use crate::scope::Scope;
-use crate::unread::Unread;
 use crate::value_rules::ValueRules;
 use crate::values::value;
-use spelling::Cursor;
-use spelling::words::{BinaryTest, ConditionHead, Junction, UnaryTest};
+use rule_grammar::words::{BinaryTest, ConditionHead, Junction, UnaryTest};
+use spelling::{Cursor, Unread};
 use sqlite_items::Boxed;
 use star_model::rules::{Condition, ValueExpr};
 use std::alloc::Global;
@@ -47,7 +46,7 @@ impl<
     }
 
     // One condition in brackets.
-    #[tactic(auto, unfolding(spelling::specs::ValueReading::one_at))]
+    #[tactic(auto, unfolding(rule_grammar::specs::ValueReading::one_at))]
     fn one(&self, cursor: &mut Cursor<'_>) -> Result<Boxed<Condition>, Unread>
         requires { NestsConditions self.now.depth (F.pre self.now.inner) (F.post self.now.inner) }
         ensures { Answers (one_at (condition_at self.now.scope.now self.now.depth) cursor.old) result cursor.new }
@@ -59,7 +58,7 @@ impl<
     }
 
     // The last two conditions in brackets.
-    #[tactic(auto, unfolding(spelling::specs::ValueReading::last_two_at))]
+    #[tactic(auto, unfolding(rule_grammar::specs::ValueReading::last_two_at))]
     fn last_two(
         &self,
         cursor: &mut Cursor<'_>,
@@ -75,7 +74,7 @@ impl<
     }
 
     // Two conditions in brackets.
-    #[tactic(auto, unfolding(spelling::specs::ValueReading::two_at))]
+    #[tactic(auto, unfolding(rule_grammar::specs::ValueReading::two_at))]
     fn two(&self, cursor: &mut Cursor<'_>) -> Result<(Boxed<Condition>, Boxed<Condition>), Unread>
         requires { NestsConditions self.now.depth (F.pre self.now.inner) (F.post self.now.inner) }
         ensures { Answers (two_at (condition_at self.now.scope.now self.now.depth) cursor.old) result cursor.new }
@@ -148,7 +147,7 @@ impl<
     }
 
     /// A condition.
-    #[tactic(auto, unfolding(spelling::specs::ConditionReading::condition_by))]
+    #[tactic(auto, unfolding(rule_grammar::specs::ConditionReading::condition_by))]
     pub fn condition(&self, cursor: &mut Cursor<'_>) -> Result<Condition, Unread>
         requires { NestsConditions self.now.depth (F.pre self.now.inner) (F.post self.now.inner) }
         ensures { Answers (condition_by self.now.scope.now self.now.depth (condition_at self.now.scope.now self.now.depth) cursor.old) result cursor.new }

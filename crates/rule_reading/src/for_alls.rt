@@ -1,19 +1,18 @@
 // Reading the for-all clauses of alternatives.
 ghost use Rattle.std.specs.Prelude.{map};
-ghost use Rattle.spelling.specs.StarReading.{for_all_at, ranges_at};
-ghost use Rattle.rule_reading.specs.Answers.{Answers};
+ghost use Rattle.rule_grammar.specs.StarReading.{for_all_at, ranges_at};
+ghost use Rattle.spelling.specs.Answers.{Answers};
 
 use crate::names::free_name;
 use crate::ranges::range;
 use crate::scope::Scope;
-use crate::unread::Unread;
-use spelling::Cursor;
+use spelling::{Cursor, Unread};
 use star_model::lists::List;
 use star_model::rules::{ForAll, Param};
 use std::alloc::Global;
 
 // A for-all clause, behind its first word.
-#[tactic(auto, unfolding(spelling::specs::StarReading::for_all_at))]
+#[tactic(auto, unfolding(rule_grammar::specs::StarReading::for_all_at))]
 fn for_all(
     alloc: Global,
     scope: &Scope<'_>,
@@ -29,7 +28,7 @@ fn for_all(
 }
 
 /// The for-all clauses of an alternative. The range of each sees the parameters, and the names of those before it.
-#[tactic(auto, unfolding(spelling::specs::StarReading::ranges_at))]
+#[tactic(auto, unfolding(rule_grammar::specs::StarReading::ranges_at))]
 pub fn ranges(
     alloc: Global,
     params: &[Param],

@@ -3,19 +3,19 @@ ghost use Rattle.std.specs.Prelude.{◌≡◌, IfOk, IfSome, IfNone};
 ghost use Rattle.spelling.specs.Reading.{Reads};
 ghost use Rattle.spelling.specs.Cursors.{AreTokensOf};
 ghost use Rattle.spelling.specs.Lexemes.{lexemes_of};
-ghost use Rattle.spelling.specs.FormulaHeads.{which_of, formula_head_at};
-ghost use Rattle.spelling.specs.Rules.{SpellsFormulaDef};
+ghost use Rattle.rule_grammar.specs.FormulaHeads.{which_of, formula_head_at};
+ghost use Rattle.rule_grammar.specs.Rules.{SpellsFormulaDef};
 ghost use Rattle.star_model.specs.declared.rules.FormulaDef.{FormulaDef};
 ghost use Rattle.rule_reading.specs.FormulaDefs.{head_of};
 
 use cost_formula::read_formula;
 use sb_text::Token;
 use spelling::Cursor;
-use spelling::flavours::flavour_of;
+use star_model::flavours::flavour_of;
 use star_model::rules::{Flavour, FormulaDef, Which};
 use std::alloc::{AllocError, Global};
 
-#[tactic(auto, unfolding(spelling::specs::FormulaHeads::which_of))]
+#[tactic(auto, unfolding(rule_grammar::specs::FormulaHeads::which_of))]
 fn which_of(word: &[u8]) -> Option<Which>
     ensures { result ≡ which_of word.now }
 {
@@ -29,7 +29,7 @@ fn which_of(word: &[u8]) -> Option<Which>
 }
 
 // The cost and the operator at the head of the statement.
-#[tactic(auto, unfolding(spelling::specs::FormulaHeads::formula_head_at))]
+#[tactic(auto, unfolding(rule_grammar::specs::FormulaHeads::formula_head_at))]
 fn head(cursor: &mut Cursor<'_>) -> Option<(Which, Flavour)>
     ensures { Reads (formula_head_at cursor.old) (head_of result) cursor.new }
 {

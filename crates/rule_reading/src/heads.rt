@@ -1,13 +1,13 @@
 // What words stand for at the front of values, requirements, ranges and conditions.
 ghost use Rattle.std.specs.Prelude.{◌≡◌};
-ghost use Rattle.spelling.specs.ValueReading.{value_head, requirement_head, range_head};
-ghost use Rattle.spelling.specs.ConditionReading.{condition_head};
+ghost use Rattle.rule_grammar.specs.ValueReading.{value_head, requirement_head, range_head};
+ghost use Rattle.rule_grammar.specs.ConditionReading.{condition_head};
 
-use spelling::found_in;
-use spelling::words::{
+use rule_grammar::words::{
     BinaryHead, BinaryTest, ConditionHead, ConstantHead, Junction, RangeHead, RequirementHead,
     UnaryHead, UnaryTest, ValueHead, ValuedHead,
 };
+use spelling::found_in;
 
 const VALUES: [(&[u8], ValueHead); 17] = [
     (b"all", ValueHead::Constant(ConstantHead::All)),
@@ -54,28 +54,28 @@ const CONDITIONS: [(&[u8], ConditionHead); 8] = [
     (b"or", ConditionHead::Junction(Junction::Or)),
 ];
 
-#[tactic(auto, unfolding(spelling::specs::ValueReading::value_head))]
+#[tactic(auto, unfolding(rule_grammar::specs::ValueReading::value_head))]
 pub fn value_head(word: &[u8]) -> ValueHead
     ensures { result ≡ value_head word.now }
 {
     found_in(&VALUES, word, ValueHead::Other)
 }
 
-#[tactic(auto, unfolding(spelling::specs::ValueReading::requirement_head))]
+#[tactic(auto, unfolding(rule_grammar::specs::ValueReading::requirement_head))]
 pub fn requirement_head(word: &[u8]) -> RequirementHead
     ensures { result ≡ requirement_head word.now }
 {
     found_in(&REQUIREMENTS, word, RequirementHead::Other)
 }
 
-#[tactic(auto, unfolding(spelling::specs::ValueReading::range_head))]
+#[tactic(auto, unfolding(rule_grammar::specs::ValueReading::range_head))]
 pub fn range_head(word: &[u8]) -> RangeHead
     ensures { result ≡ range_head word.now }
 {
     found_in(&RANGES, word, RangeHead::Other)
 }
 
-#[tactic(auto, unfolding(spelling::specs::ConditionReading::condition_head))]
+#[tactic(auto, unfolding(rule_grammar::specs::ConditionReading::condition_head))]
 pub fn condition_head(word: &[u8]) -> ConditionHead
     ensures { result ≡ condition_head word.now }
 {

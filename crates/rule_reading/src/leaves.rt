@@ -1,19 +1,18 @@
 // Reading the plans that have no plans inside: references, Glue and operators that take none.
-ghost use Rattle.spelling.specs.ValueReading.{value_at};
-ghost use Rattle.spelling.specs.PlanReading.{reference_at, glue_at, leaf_at};
-ghost use Rattle.rule_reading.specs.Answers.{Answers};
+ghost use Rattle.rule_grammar.specs.ValueReading.{value_at};
+ghost use Rattle.rule_grammar.specs.PlanReading.{reference_at, glue_at, leaf_at};
+ghost use Rattle.spelling.specs.Answers.{Answers};
 
 use crate::arguments::{arguments, own_arguments};
 use crate::scope::Scope;
-use crate::unread::Unread;
 use crate::values::boxed_value;
-use spelling::Cursor;
+use spelling::{Cursor, Unread};
 use star_model::lists::Name;
 use star_model::rules::{Flavour, PlanExpr};
 use std::alloc::Global;
 
 /// A reference to the STAR that is named by this word, behind it.
-#[tactic(auto, unfolding(spelling::specs::PlanReading::reference_at))]
+#[tactic(auto, unfolding(rule_grammar::specs::PlanReading::reference_at))]
 pub fn reference(
     alloc: Global,
     scope: &Scope<'_>,
@@ -31,7 +30,7 @@ pub fn reference(
 }
 
 /// A call of Glue, behind its word.
-#[tactic(auto, unfolding(spelling::specs::PlanReading::glue_at))]
+#[tactic(auto, unfolding(rule_grammar::specs::PlanReading::glue_at))]
 pub fn glue(
     alloc: Global,
     scope: &Scope<'_>,
@@ -52,7 +51,7 @@ pub fn glue(
 }
 
 /// An operator that takes no plan, behind its word.
-#[tactic(auto, unfolding(spelling::specs::PlanReading::leaf_at))]
+#[tactic(auto, unfolding(rule_grammar::specs::PlanReading::leaf_at))]
 pub fn leaf(
     alloc: Global,
     scope: &Scope<'_>,

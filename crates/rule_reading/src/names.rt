@@ -1,13 +1,12 @@
 // Names that aren't reserved.
 ghost use Rattle.std.specs.Prelude.{◌≡◌};
-ghost use Rattle.spelling.specs.Names.{is_among};
-ghost use Rattle.spelling.specs.RuleWords.{free_word};
-ghost use Rattle.rule_reading.specs.Answers.{Answers};
-ghost use Rattle.spelling.specs.Values.{reserved_in_rules};
+ghost use Rattle.star_model.specs.Names.{is_among};
+ghost use Rattle.rule_grammar.specs.RuleWords.{free_word};
+ghost use Rattle.spelling.specs.Answers.{Answers};
+ghost use Rattle.star_model.specs.WellFormedRules.{reserved_in_rules};
 ghost use Rattle.spelling.specs.Tables.{listed};
 
-use crate::unread::Unread;
-use spelling::Cursor;
+use spelling::{Cursor, Unread};
 use star_model::lists::Name;
 use std::alloc::Global;
 
@@ -91,7 +90,7 @@ pub fn is_reserved(name: &[u8]) -> bool
 }
 
 /// The next lexeme, where it is a word that isn't reserved.
-#[tactic(auto, unfolding(spelling::specs::RuleWords::free_word))]
+#[tactic(auto, unfolding(rule_grammar::specs::RuleWords::free_word))]
 pub fn free_name(alloc: Global, cursor: &mut Cursor<'_>) -> Result<Name, Unread>
     ensures { Answers (free_word cursor.old) result cursor.new }
 {

@@ -1,8 +1,8 @@
 // Reading plans: the bodies of alternatives.
-ghost use Rattle.spelling.specs.ValueReading.{value_at};
-ghost use Rattle.spelling.specs.Flavours.{inputs_of};
-ghost use Rattle.spelling.specs.PlanReading.{unary_at, inputs_at, joined_at, binary_at, operator_at, plan_by, plan_at};
-ghost use Rattle.rule_reading.specs.Answers.{Answers};
+ghost use Rattle.rule_grammar.specs.ValueReading.{value_at};
+ghost use Rattle.star_model.specs.Kinds.{inputs_of};
+ghost use Rattle.rule_grammar.specs.PlanReading.{unary_at, inputs_at, joined_at, binary_at, operator_at, plan_by, plan_at};
+ghost use Rattle.spelling.specs.Answers.{Answers};
 ghost use Rattle.rule_reading.specs.PlanNests.{NestsPlans};
 
 use crate::arguments::more_arguments;
@@ -10,10 +10,9 @@ use crate::leaves::{glue, leaf, reference};
 use crate::names::is_reserved;
 use crate::plan_nodes::{binary_plan, unary_plan};
 use crate::scope::Scope;
-use crate::unread::Unread;
-use spelling::Cursor;
-use spelling::flavours::flavour_of;
+use spelling::{Cursor, Unread};
 use sqlite_items::Boxed;
+use star_model::flavours::flavour_of;
 use star_model::rules::{Flavour, PlanExpr};
 use std::alloc::Global;
 
@@ -49,7 +48,7 @@ impl<F: Fn(Global, &Scope<'_>, &mut Cursor<'_>, usize) -> Result<PlanExpr, Unrea
     }
 
     // The plan inside one that has one.
-    #[tactic(auto, unfolding(spelling::specs::PlanReading::unary_at))]
+    #[tactic(auto, unfolding(rule_grammar::specs::PlanReading::unary_at))]
     fn unary(&self, cursor: &mut Cursor<'_>, flavour: Flavour) -> Result<PlanExpr, Unread>
         requires { NestsPlans self.now.depth (F.pre self.now.inner) (F.post self.now.inner) }
         ensures { Answers (unary_at (value_at self.now.scope.now self.now.depth) (plan_at self.now.scope.now self.now.depth) flavour cursor.old) result cursor.new }
@@ -60,7 +59,7 @@ impl<F: Fn(Global, &Scope<'_>, &mut Cursor<'_>, usize) -> Result<PlanExpr, Unrea
         Ok(unary_plan(flavour, args, input))
     }
 
-    #[tactic(auto, unfolding(spelling::specs::PlanReading::inputs_at))]
+    #[tactic(auto, unfolding(rule_grammar::specs::PlanReading::inputs_at))]
     fn inputs(&self, cursor: &mut Cursor<'_>) -> Result<(Boxed<PlanExpr>, Boxed<PlanExpr>), Unread>
         requires { NestsPlans self.now.depth (F.pre self.now.inner) (F.post self.now.inner) }
         ensures { Answers (inputs_at (value_at self.now.scope.now self.now.depth) (plan_at self.now.scope.now self.now.depth) cursor.old) result cursor.new }
@@ -72,7 +71,7 @@ impl<F: Fn(Global, &Scope<'_>, &mut Cursor<'_>, usize) -> Result<PlanExpr, Unrea
     }
 
     // The operator over two plans, behind these.
-    #[tactic(auto, unfolding(spelling::specs::PlanReading::joined_at))]
+    #[tactic(auto, unfolding(rule_grammar::specs::PlanReading::joined_at))]
     fn joined(
         &self,
         cursor: &mut Cursor<'_>,
@@ -85,7 +84,7 @@ impl<F: Fn(Global, &Scope<'_>, &mut Cursor<'_>, usize) -> Result<PlanExpr, Unrea
         Ok(binary_plan(flavour, args, inputs.0, inputs.1))
     }
 
-    #[tactic(auto, unfolding(spelling::specs::PlanReading::binary_at))]
+    #[tactic(auto, unfolding(rule_grammar::specs::PlanReading::binary_at))]
     fn binary(&self, cursor: &mut Cursor<'_>, flavour: Flavour) -> Result<PlanExpr, Unread>
         requires { NestsPlans self.now.depth (F.pre self.now.inner) (F.post self.now.inner) }
         ensures { Answers (binary_at (value_at self.now.scope.now self.now.depth) (plan_at self.now.scope.now self.now.depth) flavour cursor.old) result cursor.new }
@@ -112,7 +111,7 @@ impl<F: Fn(Global, &Scope<'_>, &mut Cursor<'_>, usize) -> Result<PlanExpr, Unrea
         }
     }
 
-    #[tactic(auto, unfolding(spelling::specs::PlanReading::plan_by))]
+    #[tactic(auto, unfolding(rule_grammar::specs::PlanReading::plan_by))]
     fn plan(&self, cursor: &mut Cursor<'_>) -> Result<PlanExpr, Unread>
         requires { NestsPlans self.now.depth (F.pre self.now.inner) (F.post self.now.inner) }
         ensures { Answers (plan_by (value_at self.now.scope.now self.now.depth) (plan_at self.now.scope.now self.now.depth) cursor.old) result cursor.new }

@@ -1,19 +1,18 @@
 // Reading a range.
-ghost use Rattle.spelling.specs.ValueReading.{range_at};
-ghost use Rattle.rule_reading.specs.Answers.{Answers};
+ghost use Rattle.rule_grammar.specs.ValueReading.{range_at};
+ghost use Rattle.spelling.specs.Answers.{Answers};
 
 use crate::heads::range_head;
 use crate::scope::Scope;
-use crate::unread::Unread;
 use crate::value_rules::ValueRules;
 use crate::values::value;
-use spelling::Cursor;
-use spelling::words::RangeHead;
+use rule_grammar::words::RangeHead;
+use spelling::{Cursor, Unread};
 use star_model::rules::Range;
 use std::alloc::Global;
 
 /// The range at the front of the lexemes, where at most `depth` values are open inside one another.
-#[tactic(auto, unfolding(spelling::specs::ValueReading::range_at))]
+#[tactic(auto, unfolding(rule_grammar::specs::ValueReading::range_at))]
 pub fn range(
     alloc: Global,
     scope: &Scope<'_>,

@@ -1,7 +1,7 @@
 // The names that may be used in a part of a rule.
 ghost use Rattle.std.specs.Prelude.{◌≡◌, ◌++◌, map};
-ghost use Rattle.spelling.specs.Names.{place_of};
-ghost use Rattle.spelling.specs.Values.{place_among};
+ghost use Rattle.star_model.specs.Names.{place_of};
+ghost use Rattle.star_model.specs.WellFormedRules.{place_among};
 
 use star_model::rules::{ForAll, Param};
 use std::marker::Model;

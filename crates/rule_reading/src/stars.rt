@@ -1,22 +1,21 @@
 // Reading the statement of a STAR.
-ghost use Rattle.std.specs.Prelude.{◌≡◌, ◌+◌, length, IfOk};
+ghost use Rattle.std.specs.Prelude.{◌≡◌, ◌+◌, IfOk};
 ghost use Rattle.spelling.specs.Cursors.{AreTokensOf};
 ghost use Rattle.spelling.specs.Lexemes.{lexemes_of};
-ghost use Rattle.spelling.specs.StarReading.{parameter_at, parameters_at, head_at, star_at, star_of};
-ghost use Rattle.rule_reading.specs.Answers.{Answers};
+ghost use Rattle.rule_grammar.specs.StarReading.{parameter_at, parameters_at, head_at, star_at, star_of};
+ghost use Rattle.spelling.specs.Answers.{Answers};
 
 use crate::alternatives::alternatives;
 use crate::names::free_name;
-use crate::unread::Unread;
 use sb_text::Token;
-use spelling::Cursor;
-use spelling::flavours::kind_of;
+use spelling::{Cursor, Unread};
+use star_model::flavours::kind_of;
 use star_model::lists::{List, Name};
 use star_model::rules::{Param, StarDef};
 use std::alloc::{AllocError, Global};
 
 // A parameter and its kind.
-#[tactic(auto, unfolding(spelling::specs::StarReading::parameter_at, spelling::specs::RuleWords::kind_at))]
+#[tactic(auto, unfolding(rule_grammar::specs::StarReading::parameter_at, rule_grammar::specs::RuleWords::kind_at))]
 fn parameter(alloc: Global, cursor: &mut Cursor<'_>) -> Result<Param, Unread>
     ensures { Answers (parameter_at cursor.old) result cursor.new }
 {
@@ -27,7 +26,7 @@ fn parameter(alloc: Global, cursor: &mut Cursor<'_>) -> Result<Param, Unread>
 }
 
 // Parameters with commas between.
-#[tactic(auto, unfolding(spelling::specs::StarReading::parameters_at))]
+#[tactic(auto, unfolding(rule_grammar::specs::StarReading::parameters_at))]
 fn parameters(alloc: Global, cursor: &mut Cursor<'_>) -> Result<List<Param>, Unread>
     ensures { Answers (parameters_at cursor.old) result cursor.new }
 {
@@ -42,7 +41,7 @@ fn parameters(alloc: Global, cursor: &mut Cursor<'_>) -> Result<List<Param>, Unr
 }
 
 // What stands before the alternatives: the name and the parameters.
-#[tactic(auto, unfolding(spelling::specs::StarReading::head_at))]
+#[tactic(auto, unfolding(rule_grammar::specs::StarReading::head_at))]
 fn head(alloc: Global, cursor: &mut Cursor<'_>) -> Result<(Name, List<Param>), Unread>
     ensures { Answers (head_at cursor.old) result cursor.new }
 {
@@ -56,7 +55,7 @@ fn head(alloc: Global, cursor: &mut Cursor<'_>) -> Result<(Name, List<Param>), U
 }
 
 // The STAR at the front.
-#[tactic(auto, unfolding(spelling::specs::StarReading::star_at))]
+#[tactic(auto, unfolding(rule_grammar::specs::StarReading::star_at))]
 fn star(
     alloc: Global,
     cursor: &mut Cursor<'_>,
@@ -78,7 +77,7 @@ fn star(
 /// The STAR that these tokens of the source define, which are all of the statement with this number; `None` where they define none.
 ///
 /// The recursion goes as deep as brackets nest: at most 32 in the tokens that `sb_text::tokens` gives.
-#[tactic(auto, unfolding(spelling::specs::StarReading::star_of))]
+#[tactic(auto, unfolding(rule_grammar::specs::StarReading::star_of))]
 pub fn read_star(
     alloc: Global,
     source: &[u8],

@@ -1,9 +1,9 @@
 // Making values of their parts.
 ghost use Rattle.std.specs.Prelude.{◌≡◌};
 ghost use Rattle.star_model.specs.ValueCases.{WithTemp, Indexable};
-ghost use Rattle.spelling.specs.ValueReading.{constant_of, unary_of, binary_of, valued_of};
+ghost use Rattle.rule_grammar.specs.ValueReading.{constant_of, unary_of, binary_of, valued_of};
 
-use spelling::words::{BinaryHead, ConstantHead, UnaryHead, ValuedHead};
+use rule_grammar::words::{BinaryHead, ConstantHead, UnaryHead, ValuedHead};
 use sqlite_items::Boxed;
 use star_model::rules::ValueExpr;
 

@@ -1,16 +1,14 @@
 // Reading a value by the rules of its grammar.
-ghost use Rattle.std.specs.Prelude.{◌≡◌};
-ghost use Rattle.spelling.specs.ValueReading.{value_at, value_by, one_at, last_two_at, two_at, indexable_at, variable_at, bare_at, required_at, requirement_at};
-ghost use Rattle.rule_reading.specs.Answers.{Answers};
+ghost use Rattle.rule_grammar.specs.ValueReading.{value_at, value_by, one_at, last_two_at, two_at, indexable_at, variable_at, bare_at, required_at, requirement_at};
+ghost use Rattle.spelling.specs.Answers.{Answers};
 ghost use Rattle.rule_reading.specs.Nests.{NestsValues};
 
 use crate::heads::{requirement_head, value_head};
 use crate::names::is_reserved;
 use crate::scope::Scope;
-use crate::unread::Unread;
 use crate::value_nodes::{binary, constant, indexable, unary, with_temp, with_value};
-use spelling::Cursor;
-use spelling::words::{RequirementHead, ValueHead};
+use rule_grammar::words::{RequirementHead, ValueHead};
+use spelling::{Cursor, Unread};
 use sqlite_items::Boxed;
 use star_model::lists::Name;
 use star_model::rules::ValueExpr;
@@ -48,7 +46,7 @@ impl<'a, F: Fn(Global, &Scope<'_>, &mut Cursor<'_>, usize) -> Result<ValueExpr, 
     }
 
     /// One value in brackets.
-    #[tactic(auto, unfolding(spelling::specs::ValueReading::one_at))]
+    #[tactic(auto, unfolding(rule_grammar::specs::ValueReading::one_at))]
     pub fn one(&self, cursor: &mut Cursor<'_>) -> Result<Boxed<ValueExpr>, Unread>
         requires { NestsValues self.now.depth (F.pre self.now.inner) (F.post self.now.inner) }
         ensures { Answers (one_at (value_at self.now.scope.now self.now.depth) cursor.old) result cursor.new }
@@ -60,7 +58,7 @@ impl<'a, F: Fn(Global, &Scope<'_>, &mut Cursor<'_>, usize) -> Result<ValueExpr, 
     }
 
     // The last two values in brackets.
-    #[tactic(auto, unfolding(spelling::specs::ValueReading::last_two_at))]
+    #[tactic(auto, unfolding(rule_grammar::specs::ValueReading::last_two_at))]
     fn last_two(
         &self,
         cursor: &mut Cursor<'_>,
@@ -76,7 +74,7 @@ impl<'a, F: Fn(Global, &Scope<'_>, &mut Cursor<'_>, usize) -> Result<ValueExpr, 
     }
 
     /// Two values in brackets.
-    #[tactic(auto, unfolding(spelling::specs::ValueReading::two_at))]
+    #[tactic(auto, unfolding(rule_grammar::specs::ValueReading::two_at))]
     pub fn two(
         &self,
         cursor: &mut Cursor<'_>,
@@ -88,7 +86,7 @@ impl<'a, F: Fn(Global, &Scope<'_>, &mut Cursor<'_>, usize) -> Result<ValueExpr, 
         self.last_two(cursor)
     }
 
-    #[tactic(auto, unfolding(spelling::specs::ValueReading::indexable_at))]
+    #[tactic(auto, unfolding(rule_grammar::specs::ValueReading::indexable_at))]
     fn indexable(&self, cursor: &mut Cursor<'_>) -> Result<ValueExpr, Unread>
         requires { NestsValues self.now.depth (F.pre self.now.inner) (F.post self.now.inner) }
         ensures { Answers (indexable_at (value_at self.now.scope.now self.now.depth) cursor.old) result cursor.new }
@@ -101,7 +99,7 @@ impl<'a, F: Fn(Global, &Scope<'_>, &mut Cursor<'_>, usize) -> Result<ValueExpr, 
     }
 
     // The variable of this name.
-    #[tactic(auto, unfolding(spelling::specs::ValueReading::variable_at))]
+    #[tactic(auto, unfolding(rule_grammar::specs::ValueReading::variable_at))]
     fn variable(&self, cursor: &mut Cursor<'_>, name: &[u8]) -> Result<ValueExpr, Unread>
         ensures { Answers (variable_at self.now.scope.now name.now cursor.old) result cursor.new }
     {
@@ -114,7 +112,7 @@ impl<'a, F: Fn(Global, &Scope<'_>, &mut Cursor<'_>, usize) -> Result<ValueExpr, 
     }
 
     // A value without the requirements behind it.
-    #[tactic(auto, unfolding(spelling::specs::ValueReading::bare_at))]
+    #[tactic(auto, unfolding(rule_grammar::specs::ValueReading::bare_at))]
     fn bare(&self, cursor: &mut Cursor<'_>) -> Result<ValueExpr, Unread>
         requires { NestsValues self.now.depth (F.pre self.now.inner) (F.post self.now.inner) }
         ensures { Answers (bare_at self.now.scope.now (value_at self.now.scope.now self.now.depth) cursor.old) result cursor.new }
@@ -136,7 +134,7 @@ impl<'a, F: Fn(Global, &Scope<'_>, &mut Cursor<'_>, usize) -> Result<ValueExpr, 
     }
 
     // A value, and the square bracket behind it.
-    #[tactic(auto, unfolding(spelling::specs::ValueReading::required_at))]
+    #[tactic(auto, unfolding(rule_grammar::specs::ValueReading::required_at))]
     fn required(&self, cursor: &mut Cursor<'_>) -> Result<Boxed<ValueExpr>, Unread>
         requires { NestsValues self.now.depth (F.pre self.now.inner) (F.post self.now.inner) }
         ensures { Answers (required_at (value_at self.now.scope.now self.now.depth) cursor.old) result cursor.new }
@@ -147,7 +145,7 @@ impl<'a, F: Fn(Global, &Scope<'_>, &mut Cursor<'_>, usize) -> Result<ValueExpr, 
     }
 
     // The stream with the requirement that stands behind a square bracket.
-    #[tactic(auto, unfolding(spelling::specs::ValueReading::requirement_at))]
+    #[tactic(auto, unfolding(rule_grammar::specs::ValueReading::requirement_at))]
     fn requirement(&self, cursor: &mut Cursor<'_>, stream: ValueExpr) -> Result<ValueExpr, Unread>
         requires { NestsValues self.now.depth (F.pre self.now.inner) (F.post self.now.inner) }
         ensures { Answers (requirement_at (value_at self.now.scope.now self.now.depth) stream cursor.old) result cursor.new }
@@ -168,7 +166,7 @@ impl<'a, F: Fn(Global, &Scope<'_>, &mut Cursor<'_>, usize) -> Result<ValueExpr, 
     }
 
     /// A value with the requirements behind it.
-    #[tactic(auto, unfolding(spelling::specs::ValueReading::value_by))]
+    #[tactic(auto, unfolding(rule_grammar::specs::ValueReading::value_by))]
     pub fn value(&self, cursor: &mut Cursor<'_>) -> Result<ValueExpr, Unread>
         requires { NestsValues self.now.depth (F.pre self.now.inner) (F.post self.now.inner) }
         ensures { Answers (value_by self.now.scope.now (value_at self.now.scope.now self.now.depth) cursor.old) result cursor.new }

@@ -14,7 +14,7 @@ use Rattle.star_model.specs.declared.rules.PlanExpr.{PlanExpr}
 use Rattle.star_model.specs.declared.rules.StarDef.{StarDef}
 use Rattle.star_model.specs.declared.rules.ValueExpr.{ValueExpr}
 use Rattle.star_model.specs.declared.rules.RuleFile.{RuleFile}
-use Rattle.spelling.specs.RuleLimits.{WellFormedRules, nesting}
+use Rattle.star_model.specs.WellFormedRules.{WellFormedRules, nesting}
 use Rattle.star_check.specs.Heights.{height_named}
 use Rattle.star_check.proofs.Laws.{bodies_refer_below, height_is_named, heights_are_from_one, bodies_are_shallow}
 use Rattle.search_places.specs.Searching.{work_at, work_in}

@@ -20,7 +20,7 @@ use Rattle.star_model.specs.declared.rules.StarDef.{StarDef}
 use Rattle.star_model.specs.declared.rules.ValueExpr.{ValueExpr}
 use Rattle.star_model.specs.declared.rules.RuleFile.{RuleFile}
 use Rattle.star_model.specs.declared.values.RuleValue.{RuleValue}
-use Rattle.spelling.specs.RuleLimits.{WellFormedRules, KeepsStarLimits}
+use Rattle.star_model.specs.WellFormedRules.{WellFormedRules, KeepsStarLimits}
 use Rattle.star_check.specs.SoundPlaces.{IsSoundCall, IsSoundExpression}
 use Rattle.star_check.proofs.Laws.{goal_leads_to_sound}
 use Rattle.search_places.specs.declared.search.Search.{Search}

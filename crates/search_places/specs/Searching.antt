@@ -11,7 +11,7 @@ use Rattle.star_model.specs.declared.rules.ForAll.{ForAll}
 use Rattle.star_model.specs.declared.rules.PlanExpr.{PlanExpr}
 use Rattle.star_model.specs.declared.rules.RuleFile.{RuleFile}
 use Rattle.star_model.specs.declared.values.RuleValue.{RuleValue}
-use Rattle.spelling.specs.RuleLimits.{nesting}
+use Rattle.star_model.specs.WellFormedRules.{nesting}
 use Rattle.star_check.specs.Heights.{height_named}
 use Rattle.search_places.specs.declared.search.Search.{Search}
 use Rattle.search_places.specs.Memos.{HoldsFrontiers, HoldsAsked}

@@ -15,9 +15,10 @@ ghost use Rattle.star_model.specs.declared.rules.RuleFile.{RuleFile};
 ghost use Rattle.star_model.specs.declared.rules.StarDef.{StarDef};
 ghost use Rattle.star_model.specs.declared.rules.ValueExpr.{ValueExpr};
 ghost use Rattle.star_model.specs.declared.values.RuleValue.{RuleValue};
-ghost use Rattle.spelling.specs.RuleLimits.{WellFormedRules};
+ghost use Rattle.star_model.specs.WellFormedRules.{WellFormedRules};
 ghost use Rattle.search_places.specs.declared.search.Search.{Search};
-ghost use Rattle.search_places.specs.Roots.{root_of_split, root_values};
+ghost use Rattle.search_places.specs.Roots.{root_of_split};
+ghost use Rattle.star_value.specs.Roots.{root_values};
 ghost use Rattle.search_places.specs.Searching.{LeadsTo, IsWithin, work_at, work_in};
 
 /// A place to which the goal leads is left for one with less work, to which the goal leads too: an input of an expression, the STAR to

@@ -4,12 +4,10 @@ use Rattle.std.specs.List.{AllPass}
 use Rattle.sb_text.specs.Front.{in_comment}
 use Rattle.sb_text.specs.Reading.{IsGap, Reads}
 use Rattle.sb_text.proofs.Laws.{one_reading}
-use Rattle.star_model.specs.declared.derivations.Deriv.{Deriv}
-use Rattle.spelling.specs.Lexemes.{Lexeme, IsStatements, statements_in, Every}
+use Rattle.spelling.specs.Lexemes.{Lexeme, IsStatements, statements_in}
+use Rattle.star_model.specs.Every.{Every}
 use Rattle.spelling.specs.Layout.{layout, IsLexeme, commented}
-use Rattle.spelling.specs.Derivations.{IsWritable, NamesWord, steps, statements_of, canonical, SpellsDerivation}
 use Rattle.spelling.proofs.LayoutLaws.{lay, behind}
-use Rattle.spelling.proofs.DerivationWriting.{formed_steps}
 
 pub layout_behind_comment : (line : List ℕ) (statements : List (List Lexeme)) → AllPass in_comment line → Every (Every IsLexeme) statements → IsStatements (commented line (layout statements)) statements
 unfolding statements_in
@@ -22,6 +20,3 @@ layout_behind_comment line statements none all =
     let reads = Reads.gap front (10 ∷ layout statements) (IsGap.comment line refl none refl) (Reads.gap (10 ∷ []) (layout statements) (IsGap.blank 10 refl refl) l.reads) in
     let read = one_reading whole l.tokens None reads in
     record { all_tokens = rw read refl; are = rw read l.says }
-
-pub commented_derivation : (line : List ℕ) (tree : Deriv) → AllPass in_comment line → IsWritable tree → Every NamesWord (steps tree) → SpellsDerivation (commented line (canonical tree)) tree
-commented_derivation line tree none h w = record { statements = layout_behind_comment line (statements_of tree) none (formed_steps (steps tree) h.each w); writable = h }

@@ -8,7 +8,8 @@ use Rattle.sb_text.specs.Statements.{Part, tokens_of, parts}
 use Rattle.sb_text.specs.Reading.{IsTokenOf}
 use Rattle.sb_text.specs.declared.token.Token.{Token}
 use Rattle.sb_text.proofs.Laws.{tokens-lexed, tokens-parts, length-parts, length-lexed}
-use Rattle.spelling.specs.Lexemes.{Every, statements_in}
+use Rattle.star_model.specs.Every.{Every}
+use Rattle.spelling.specs.Lexemes.{statements_in}
 use Rattle.spelling.specs.Cursors.{AreTokensOf, part_said, IsPartOf}
 
 every_of : {A : Type 0} (P : A → Type 0) (xs : List A) → All P xs → Every P xs

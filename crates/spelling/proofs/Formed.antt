@@ -14,7 +14,8 @@ use Rattle.sb_text.specs.Tokens.{lexed, text_of}
 use Rattle.sb_text.specs.Reading.{IsTokenOf}
 use Rattle.sb_text.specs.Statements.{Part, tokens_of, parts, is_inside}
 use Rattle.sb_text.proofs.Laws.{tokens-parts, inside-parts}
-use Rattle.spelling.specs.Lexemes.{Lexeme, said, lexeme_of, lexemes_of, MaybeEnded, ended, statements_in, IsStatements, Every}
+use Rattle.spelling.specs.Lexemes.{Lexeme, said, lexeme_of, lexemes_of, MaybeEnded, ended, statements_in, IsStatements}
+use Rattle.star_model.specs.Every.{Every}
 use Rattle.spelling.specs.Layout.{layout, IsLexeme}
 use Rattle.spelling.proofs.TokenForms.{all_digits}
 use Rattle.spelling.proofs.LayoutLaws.{statements_of_layout}

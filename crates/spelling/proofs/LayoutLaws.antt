@@ -14,7 +14,8 @@ use Rattle.sb_text.specs.Reading.{IsGap, Reads, token_of}
 use Rattle.sb_text.specs.Statements.{Part, parts, is_end, is_inside}
 use Rattle.sb_text.proofs.Laws.{one_reading, parts-ended}
 use Rattle.star_model.specs.Vectors.{same_numbers}
-use Rattle.spelling.specs.Lexemes.{Lexeme, Word, Number, Text, Symbol, said, semicolon, lexeme_of, lexemes_of, ended, statements_in, IsStatements, Every}
+use Rattle.spelling.specs.Lexemes.{Lexeme, Word, Number, Text, Symbol, said, semicolon, lexeme_of, lexemes_of, ended, statements_in, IsStatements}
+use Rattle.star_model.specs.Every.{Every}
 use Rattle.spelling.specs.Layout.{written, is_one_of, hangs, leads, calls, gap, spaced, layout, IsLexeme}
 use Rattle.spelling.proofs.Written.{kind_of, Follows, begins_semicolon, Shows, shows, shows_symbol, no_semicolon}
 

@@ -4,7 +4,8 @@ use Rattle.std.specs.Str.Parse.{IsNumeral}
 use Rattle.sb_text.specs.declared.token.Token.{Token}
 use Rattle.sb_text.specs.Reading.{IsTokenOf}
 use Rattle.sb_text.specs.Statements.{Part}
-use Rattle.spelling.specs.Lexemes.{Every, MaybeEnded, lexemes_of}
+use Rattle.star_model.specs.Every.{Every}
+use Rattle.spelling.specs.Lexemes.{MaybeEnded, lexemes_of}
 
 abbrev pub AreTokensOf : List ℕ → List Token → Type 0
 AreTokensOf source tokens = Every (IsTokenOf source) tokens

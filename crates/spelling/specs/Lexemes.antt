@@ -88,16 +88,6 @@ equals = Symbol (codes "=")
 
 -- ---- parts of statements
 
--- each item has the property
-abbrev pub Every : {A : Type 0} → (A → Type 0) → List A → Type 0
-Every P [] = Unit {0}
-Every P (x ∷ xs) = P x × Every P xs
-
--- there is an item
-abbrev pub HasItem : {A : Type 0} → List A → Type 0
-HasItem [] = ⊥
-HasItem (x ∷ xs) = Unit {0}
-
 -- the items one after the other, with this lexeme between two
 abbrev pub joined_by : Lexeme → List (List Lexeme) → List Lexeme
 joined_by between [] = []
@@ -106,3 +96,7 @@ joined_by between (item ∷ next ∷ items) = item ++ between ∷ joined_by betw
 
 abbrev pub bracketed : List Lexeme → List Lexeme
 bracketed inside = left_bracket ∷ (inside ++ right_bracket ∷ [])
+
+-- a word and its arguments
+abbrev pub call : List ℕ → List (List Lexeme) → List Lexeme
+call word arguments = Word word ∷ bracketed (joined_by comma arguments)

@@ -1,14 +1,6 @@
 -- Names that are looked up in lists of names.
-use Rattle.std.specs.Prelude.{ℕ, Bool, List, [], ◌∷◌, Option, Some, None, option_map, option_and_then, if◌then◌else◌}
-use Rattle.std.specs.List.{position_from, list_any}
+use Rattle.std.specs.Prelude.{ℕ, List, [], ◌∷◌, Option, Some, None, option_map, option_and_then, if◌then◌else◌}
 use Rattle.star_model.specs.Vectors.{same_numbers}
-
--- the place of the first of these names that is this one
-abbrev pub place_of : List ℕ → List (List ℕ) → Option ℕ
-place_of name names = position_from (same_numbers name) 0 names
-
-abbrev pub is_among : List (List ℕ) → List ℕ → Bool
-is_among names name = list_any (same_numbers name) names
 
 -- what stands beside these bytes in a table; the first argument where they aren't in it
 abbrev pub found_in : {A : Type 0} → A → List (List ℕ × A) → List ℕ → A

@@ -2,7 +2,8 @@
 use Rattle.std.specs.Prelude.{◌≡◌, ◌↔◌, ◌+◌, ◌<◌, ℕ, zero, suc, List, [], ◌∷◌, ◌++◌, length, map, Some, None}
 use Rattle.std.proofs.Common.{refl, ap, sym, ◌∙◌, arith, append_assoc, length-append}
 use Rattle.std.proofs.lemmas.Option.{some_pair_parts}
-use Rattle.spelling.specs.Lexemes.{Lexeme, joined_by, HasItem, Every}
+use Rattle.spelling.specs.Lexemes.{Lexeme, joined_by}
+use Rattle.star_model.specs.Every.{HasItem, Every}
 use Rattle.spelling.specs.Reading.{Reader}
 use Rattle.spelling.specs.SeriesReading.{series_behind, series}
 use Rattle.spelling.specs.ReadingCases.{then_reads, choose}

@@ -1,5 +1,5 @@
 // Reading the lexemes of a statement from the front.
-ghost use Rattle.std.specs.Prelude.{◌≡◌, option_map, option_copied, ℕ, IsTrue, ◌↔◌, [], ◌<◌, length, drop, IfNone, IfOk};
+ghost use Rattle.std.specs.Prelude.{◌≡◌, option_map, option_copied, IsTrue, ◌↔◌, [], ◌<◌, length, drop, IfNone, IfOk};
 ghost use Rattle.spelling.specs.Lexemes.{undoubled, lexemes_of};
 ghost use Rattle.spelling.specs.Cursors.{AreTokensOf, IsMachineNumber};
 ghost use Rattle.std.specs.Str.Parse.{digits_value};

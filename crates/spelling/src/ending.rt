@@ -1,6 +1,6 @@
 // The space before a lexeme.
 
-ghost use Rattle.std.specs.Prelude.{◌≡◌, codes};
+ghost use Rattle.std.specs.Prelude.{◌≡◌};
 ghost use Rattle.spelling.specs.Layout.{is_one_of};
 ghost use Rattle.spelling.specs.Writing.{ending_of_symbol, symbol_hangs, is_open};
 

@@ -2,8 +2,7 @@
 
 ghost use Rattle.std.specs.Prelude.{◌≡◌, ◌∷◌, map, List, OnOk};
 ghost use Rattle.std.specs.List.{flat_map};
-ghost use Rattle.spelling.specs.Lexemes.{Lexeme, Symbol, joined_by};
-ghost use Rattle.spelling.specs.Values.{call};
+ghost use Rattle.spelling.specs.Lexemes.{Lexeme, Symbol, joined_by, call};
 ghost use Rattle.spelling.specs.Writing.{puts};
 
 use crate::Writer;

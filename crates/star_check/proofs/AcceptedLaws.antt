@@ -11,8 +11,8 @@ use Rattle.star_model.specs.declared.rules.Kind.TheVariants as kind
 use Rattle.star_model.specs.declared.rules.StarDef.{StarDef}
 use Rattle.star_model.specs.declared.rules.Alternative.{Alternative}
 use Rattle.star_model.specs.declared.rules.RuleFile.{RuleFile}
-use Rattle.spelling.specs.Lexemes.{Every}
-use Rattle.spelling.specs.RuleLimits.{WellFormedRules, KeepsStarLimits, IsShallow, nesting}
+use Rattle.star_model.specs.Every.{Every}
+use Rattle.star_model.specs.WellFormedRules.{WellFormedRules, KeepsStarLimits, IsShallow, nesting}
 use Rattle.star_check.proofs.Bindings.{same_kinds_are}
 use Rattle.star_check.proofs.Owned.{fails, names_are_own}
 

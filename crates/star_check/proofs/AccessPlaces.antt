@@ -19,7 +19,7 @@ use Rattle.star_model.specs.declared.rules.StarDef.{StarDef}
 use Rattle.star_model.specs.declared.rules.ValueExpr.{ValueExpr}
 use Rattle.star_model.specs.declared.rules.RuleFile.{RuleFile}
 use Rattle.star_model.specs.declared.values.RuleValue.{RuleValue}
-use Rattle.spelling.specs.Lexemes.{Every}
+use Rattle.star_model.specs.Every.{Every}
 use Rattle.star_check.proofs.AcceptedLaws.{no_glue_below}
 use Rattle.star_check.proofs.Bodies.{opened}
 use Rattle.star_check.proofs.Named.{is_there, passes_name, its_name, own_name}

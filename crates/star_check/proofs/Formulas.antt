@@ -1,6 +1,6 @@
 -- Which operators are used, and which lack a formula.
 use Rattle.std.proofs.Common.{◌≡◌, ℕ, ◌+◌, ◌<◌, ◌≤◌, ◌≢◌, lit<, length, Bool, true, false, ◌||◌, if◌then◌else◌, List, [], ◌∷◌, map, refl, sym, ap, ◌∙◌, arith}
-use Rattle.std.specs.Prelude.{Option, Some, None, is_none, not, ◌&&◌, slice_get}
+use Rattle.std.specs.Prelude.{Option, Some, None, is_none, not, ◌&&◌}
 use Rattle.std.specs.List.{list_any, flat_map, find}
 use Rattle.star_model.specs.Costs.{row_of, flavours, same_flavour, same_which, formula_of}
 use Rattle.star_model.specs.Accepted.{operators_in, bodies_of, is_used, lacks_formula}

@@ -22,7 +22,7 @@ use Rattle.star_model.specs.declared.rules.Flavour.{Flavour}
 use Rattle.star_model.specs.declared.rules.StarDef.{StarDef}
 use Rattle.star_model.specs.declared.rules.FormulaDef.{FormulaDef}
 use Rattle.star_model.specs.declared.rules.RuleFile.{RuleFile}
-use Rattle.spelling.specs.RuleLimits.{WellFormedRules}
+use Rattle.star_model.specs.WellFormedRules.{WellFormedRules}
 use Rattle.star_model.specs.Costs.{flavours}
 use Rattle.star_check.specs.FileFaults.{IsMissingFormula}
 use Rattle.star_check.specs.FirstStatements.{FirstOrNever, first_star, first_formula, earlier_of}

@@ -7,7 +7,7 @@ use Rattle.std.specs.Option.{option_map}
 use Rattle.std.proofs.Math.Bool.{or-true}
 use Rattle.std.proofs.lemmas.Bool.{false≢true, eq-eqb, cases_lt, lt-ltb, and_parts, or_parts}
 use Rattle.std.proofs.lemmas.List.Folds.{list_all-append}
-use Rattle.std.proofs.lemmas.Cmp.{nat_eq_equiv, nat_list_eq_equiv}
+use Rattle.std.proofs.lemmas.Cmp.{nat_eq_equiv}
 use Rattle.std.proofs.lemmas.Option.{same_Some, none-some, slice_get-map, slice_get-get_or, slice_get_within, get_or_from_slice_get}
 use Rattle.star_model.specs.Stars.{star_named}
 use Rattle.star_model.specs.Vectors.{same_numbers}
@@ -20,7 +20,7 @@ use Rattle.star_model.specs.Accepted.{Never, Unknown, Twice, is_unknown, is_star
 use Rattle.star_model.specs.declared.rules.StarDef.{StarDef}
 use Rattle.star_model.specs.declared.rules.FormulaDef.{FormulaDef}
 use Rattle.star_model.specs.declared.rules.RuleFile.{RuleFile}
-use Rattle.spelling.specs.RuleLimits.{WellFormedRules}
+use Rattle.star_model.specs.WellFormedRules.{WellFormedRules}
 use Rattle.star_check.specs.Owning.{NamesAreOwn, NamesAreKnown, FormulasAreOwn}
 use Rattle.star_check.proofs.Places.{Place, place, find_passes, find_none}
 use Rattle.star_model.proofs.Laws.{same_are, same_self}

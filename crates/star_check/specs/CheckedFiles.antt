@@ -4,7 +4,7 @@ use Rattle.star_model.specs.Costs.{costs_of}
 use Rattle.star_model.specs.Accepted.{IsAccepted}
 use Rattle.star_model.specs.declared.costs.CostEntry.{CostEntry}
 use Rattle.star_model.specs.declared.rules.RuleFile.{RuleFile}
-use Rattle.spelling.specs.RuleLimits.{WellFormedRules}
+use Rattle.star_model.specs.WellFormedRules.{WellFormedRules}
 
 pub record IsChecked (rules : RuleFile) (costs : List CostEntry) : Type 0 where
   pub formed : WellFormedRules rules

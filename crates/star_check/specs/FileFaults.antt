@@ -1,5 +1,5 @@
 -- What is looked for in a whole file: a missing root, a missing formula, a formula that isn't monotone.
-use Rattle.std.specs.Prelude.{◌≡◌, true, false, Option, Some, None, Bool, List, [], ◌∷◌}
+use Rattle.std.specs.Prelude.{◌≡◌, true, false, Option, Some, None, Bool, [], ◌∷◌}
 use Rattle.std.specs.List.{list_any}
 use Rattle.star_model.specs.Costs.{same_flavour}
 use Rattle.star_model.specs.Accepted.{lacks_root, lacks_formula, FirstFlavour}

@@ -1,8 +1,7 @@
 // The kinds of the values in bodies.
-ghost use Rattle.std.specs.Prelude.{◌≡◌, ◌&&◌, [], ◌∷◌, map};
-ghost use Rattle.std.specs.Option.{option_map_or};
+ghost use Rattle.std.specs.Prelude.{◌≡◌, ◌&&◌, [], map};
 ghost use Rattle.star_model.specs.Stars.{star_named};
-ghost use Rattle.star_model.specs.Kinds.{asks, kind_of, argument_kinds, have_kinds};
+ghost use Rattle.star_model.specs.Kinds.{argument_kinds, have_kinds};
 ghost use Rattle.star_model.specs.Accepted.{body_has_kinds};
 ghost use Rattle.star_model.specs.declared.rules.Kind.TheVariants as kind;
 ghost use Rattle.star_check.specs.KindTests.{reference_has_kinds};

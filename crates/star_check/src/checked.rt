@@ -4,7 +4,7 @@ ghost use Rattle.std.specs.Option.{option_copied};
 ghost use Rattle.star_model.specs.Costs.{costs_of};
 ghost use Rattle.star_model.specs.Stars.{star_named};
 ghost use Rattle.star_model.specs.Accepted.{IsAccepted};
-ghost use Rattle.spelling.specs.RuleLimits.{WellFormedRules};
+ghost use Rattle.star_model.specs.WellFormedRules.{WellFormedRules};
 ghost use Rattle.star_check.specs.Checking.{Checks};
 ghost use Rattle.star_check.specs.Owning.{FormulasAreOwn};
 

@@ -1,10 +1,9 @@
 // The refusals of a rule file, in their order: each over the whole file.
-ghost use Rattle.std.specs.Prelude.{◌≡◌, ◌≤◌, length, IfOk};
-ghost use Rattle.star_model.specs.Accepted.{Unknown, Twice, WrongArity, WrongKind};
-ghost use Rattle.spelling.specs.Lexemes.{Every};
-ghost use Rattle.spelling.specs.RuleLimits.{KeepsFormulaLimits, WellFormedRules};
+ghost use Rattle.std.specs.Prelude.{◌≤◌, length, IfOk};
+ghost use Rattle.star_model.specs.Accepted.{Unknown, Twice};
+ghost use Rattle.star_model.specs.Every.{Every};
+ghost use Rattle.star_model.specs.WellFormedRules.{KeepsFormulaLimits, WellFormedRules};
 ghost use Rattle.star_check.specs.Checking.{IsFirstFault};
-ghost use Rattle.star_check.specs.FirstStatements.{FirstOrNever};
 ghost use Rattle.star_check.specs.Owning.{NamesAreOwn, NamesAreKnown};
 ghost use Rattle.star_check.specs.Passing.{NamesPass, ReferencesPass, FormulasPass, PassesOr};
 

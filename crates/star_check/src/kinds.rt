@@ -1,6 +1,6 @@
 // The kinds of values, ranges and conditions.
 ghost use Rattle.std.specs.Prelude.{◌≡◌, slice_get};
-ghost use Rattle.star_model.specs.Kinds.{asks, given, sets_of, one_kind, kind_of, kind_of_range, is_kinded, same_kind, argument_kinds, have_kinds};
+ghost use Rattle.star_model.specs.Kinds.{asks, given, sets_of, one_kind, kind_of, kind_of_range, is_kinded, argument_kinds, have_kinds};
 
 use star_model::rules::{Condition, Flavour, ForAll, Kind, Range, ValueExpr};
 

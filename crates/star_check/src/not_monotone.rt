@@ -1,8 +1,8 @@
 // Formulas that fail the monotone check.
 ghost use Rattle.std.specs.Prelude.{◌<◌, ◌^◌, length};
 ghost use Rattle.star_model.specs.Monotone.{nodes};
-ghost use Rattle.spelling.specs.Lexemes.{Every};
-ghost use Rattle.spelling.specs.RuleLimits.{KeepsFormulaLimits};
+ghost use Rattle.star_model.specs.Every.{Every};
+ghost use Rattle.star_model.specs.WellFormedRules.{KeepsFormulaLimits};
 ghost use Rattle.star_check.specs.Findings.{IsFirstFound, IsOwn};
 ghost use Rattle.star_check.specs.Offences.{ShowsOffence};
 

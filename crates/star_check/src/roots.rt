@@ -1,5 +1,5 @@
 // Roots that are missing: the STARs from which goals are derived.
-ghost use Rattle.std.specs.Prelude.{◌≡◌, is_none, false, codes};
+ghost use Rattle.std.specs.Prelude.{◌≡◌, codes};
 ghost use Rattle.std.specs.List.{list_any};
 ghost use Rattle.star_model.specs.Vectors.{same_numbers};
 ghost use Rattle.star_model.specs.Accepted.{lacks_root};

@@ -19,7 +19,7 @@ ghost use Rattle.star_model.specs.declared.faults.RuleFault.{RuleFault};
 ghost use Rattle.star_model.specs.declared.rules.Alternative.{Alternative};
 ghost use Rattle.star_model.specs.declared.rules.RuleFile.{RuleFile};
 ghost use Rattle.star_model.specs.declared.rules.StarDef.{StarDef};
-ghost use Rattle.spelling.specs.RuleLimits.{WellFormedRules, nesting};
+ghost use Rattle.star_model.specs.WellFormedRules.{WellFormedRules, nesting};
 ghost use Rattle.star_check.specs.Heights.{height_named, refers_below};
 ghost use Rattle.star_check.specs.SoundPlaces.{may_read, IsSound};
 

@@ -1,9 +1,9 @@
 // STARs and names that are used and not defined.
-ghost use Rattle.std.specs.Prelude.{◌≡◌, nat_eq, is_none, []};
-ghost use Rattle.std.specs.List.{list_any, flat_map};
+ghost use Rattle.std.specs.Prelude.{◌≡◌, is_none, []};
+ghost use Rattle.std.specs.List.{list_any};
 ghost use Rattle.std.specs.Option.{option_map_or};
 ghost use Rattle.star_model.specs.Stars.{star_named};
-ghost use Rattle.star_model.specs.Accepted.{references_in, references_of, values_in, values_of_condition, values_of_range, values_of_alternative, variables_in, is_unknown};
+ghost use Rattle.star_model.specs.Accepted.{references_in, values_in, values_of_condition, values_of_range, values_of_alternative, is_unknown};
 ghost use Rattle.star_check.specs.FirstStatements.{first_star};
 ghost use Rattle.star_check.specs.Strange.{is_strange};
 

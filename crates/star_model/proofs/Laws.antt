@@ -4,6 +4,8 @@ use Rattle.std.specs.Prelude.{Some}
 pub use Rattle.star_model.proofs.NumberLaws.{sum-cut, difference-cut, product-cut, quotient-cut, sum-le, difference-le, product-le, quotient-le, sum-exact, difference-exact, product-exact, quotient-exact, quotient_enough, quotient_least}
 pub use Rattle.star_model.proofs.SetLaws.{has-zero, has-union, has-meet, has-minus, has-single, has-set_of, has-above, same_set, union-lt, meet-lt, minus-lt, single-lt, set_of-lt, within-members}
 pub use Rattle.star_model.proofs.ColumnLaws.{has_column-empty, has_column-with, has_column-union, has_column-where, within-columns, same_columns, empty_columns, union-where, with_column-where}
+pub use Rattle.star_model.proofs.MembersBelow.{kept_below, members_below}
+pub use Rattle.star_model.proofs.FlavourLaws.{same_flavour_word}
 pub use Rattle.star_model.proofs.SplitLaws.{split_once, split_only}
 pub use Rattle.star_model.proofs.SizeLaws.{part_is_smaller, left_is_smaller, right_is_smaller}
 pub use Rattle.star_model.proofs.MonotoneLaws.{monotone}

@@ -1,5 +1,5 @@
 -- The canonical form of an order: lists of columns that sort alike, where some predicates hold, have one form.
-use Rattle.std.specs.Prelude.{ℕ, Bool, true, not, ◌&&◌, ◌||◌, nat_eq, nat_lt, List, [], ◌∷◌, ◌++◌, map, fold, filter, Option, Some, None, if◌then◌else◌, ◌⊎◌, Contains}
+use Rattle.std.specs.Prelude.{ℕ, Bool, not, ◌&&◌, ◌||◌, nat_eq, nat_lt, List, [], ◌∷◌, ◌++◌, map, fold, filter, Option, Some, None, if◌then◌else◌, ◌⊎◌, Contains}
 use Rattle.std.specs.List.{filter_map}
 use Rattle.star_model.specs.Sets.{has}
 use Rattle.star_model.specs.Predicates.{preds_in}

@@ -7,6 +7,7 @@ pub mod copies;
 pub mod costs;
 pub mod derivations;
 pub mod faults;
+pub mod flavours;
 pub mod formula;
 pub mod lists;
 pub mod num;

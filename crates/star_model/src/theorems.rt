@@ -1,9 +1,11 @@
 // The laws of the definitions, each the clause of a function that does nothing.
 
-ghost use Rattle.std.specs.Prelude.{◌≡◌, ◌≢◌, ℕ, ◌<◌, ◌≤◌, ◌+◌, ◌-◌, ◌*◌, ◌^◌, max, Bool, true, false, ◌&&◌, ◌||◌, not, nat_eq, ◌↔◌, List as Seq, [], ◌∷◌, ◌++◌, Some, None, if◌then◌else◌, replicate, length, map, All, IsSortedBy};
-ghost use Rattle.std.specs.List.{count_by, list_all};
+ghost use Rattle.std.specs.Prelude.{◌≡◌, ◌≢◌, ℕ, ◌<◌, ◌≤◌, ◌+◌, ◌-◌, ◌*◌, ◌^◌, max, Bool, true, false, ◌&&◌, ◌||◌, not, nat_eq, ◌↔◌, List as Seq, [], ◌∷◌, ◌++◌, Some, None, if◌then◌else◌, replicate, length, map, All, IsSortedBy, filter};
+ghost use Rattle.std.specs.List.{count_by, list_all, range_with_len};
+ghost use Rattle.star_model.specs.Every.{Every};
+ghost use Rattle.star_model.specs.FlavourWords.{flavour_word};
 ghost use Rattle.star_model.specs.Numbers.{top, cut_sum, cut_difference, cut_product, cut_quotient, quotient_up};
-ghost use Rattle.star_model.specs.Sets.{has, set_of, single, union, meet, minus, is_within, size, splits, is_pair, IsSplit};
+ghost use Rattle.star_model.specs.Sets.{has, members, set_of, single, union, meet, minus, is_within, size, splits, is_pair, IsSplit};
 ghost use Rattle.star_model.specs.Columns.{Columns, has_column, columns_where, union_columns, is_column_at, with_column, is_columns_within};
 ghost use Rattle.star_model.specs.Monotone.{passes, first_offending, IsMonotone};
 ghost use Rattle.star_model.specs.Costs.{row_of, formula_of, costs_of, same_flavour, same_which};
@@ -92,6 +94,17 @@ pub fn sets_fit()
     ensures minus { (s t : ℕ) → s < 2 ^ 32 → minus s t < 2 ^ 32 }
     ensures single { (k : ℕ) → k < 32 → single k < 2 ^ 32 }
     ensures set_of { (p : ℕ → Bool) → set_of p < 2 ^ 32 }
+{}
+
+/// The members of a set, and the numbers that are kept of a range, are below its end.
+pub fn members_are_below()
+    ensures kept { (test : ℕ → Bool) (bound k n : ℕ) → k + n ≤ bound → Every (λ m. m < bound) (filter test (range_with_len k n)) }
+    ensures members { (s : ℕ) → Every (λ m. m < 32) (members s) }
+{}
+
+/// Operators are written with words of their own.
+pub fn words_tell_operators_apart()
+    ensures { (f g : Flavour) → flavour_word f ≡ flavour_word g → f ≡ g }
 {}
 
 /// What is a column of a set that an operation gives.

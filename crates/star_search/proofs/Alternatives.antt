@@ -19,7 +19,7 @@ use Rattle.dominance_prune.specs.Gathering.{Gathers}
 use Rattle.dominance_prune.specs.GatheringCases.{Gathers-then, Gathers-same, Gathers-nothing}
 use Rattle.lolepop.specs.Derived.{DerivedPlan, is_better_plan}
 use Rattle.exchange.specs.Places.{IsDerived, IsBestOf, RangesWay}
-use Rattle.spelling.specs.RuleLimits.{WellFormedRules}
+use Rattle.star_model.specs.WellFormedRules.{WellFormedRules}
 use Rattle.exchange.proofs.Laws.{call_exchange}
 use Rattle.search_places.specs.declared.search.Search.{Search}
 use Rattle.search_places.specs.Searching.{LeadsTo, IsWithin}

@@ -1,10 +1,9 @@
 -- What the splits of a goal make.
-use Rattle.star_model.specs.Expected.{Expected}
+use Rattle.star_model.specs.Expected.{Expected, ForGoal, Call, may_split}
 use Rattle.std.proofs.Common.{◌≡◌, ℕ, ◌<◌, ◌^◌, true, false, nat_eq, List, [], ◌∷◌, ◌++◌, Result, Ok, Err, OnOk, Option, Some, None, refl, ap, sym, ◌∙◌, subst, arith}
 use Rattle.std.specs.Prelude.{Contains}
 use Rattle.std.proofs.lemmas.List.Elements.{Contains-append_right}
 use Rattle.std.proofs.lemmas.Bool.{ne_eqb}
-use Rattle.star_model.specs.Expected.{ForGoal, Call, may_split}
 use Rattle.star_model.specs.Sets.{size, splits}
 use Rattle.star_model.specs.declared.plans.Goal.{Goal}
 use Rattle.star_model.specs.declared.query.Query.{Query}
@@ -19,7 +18,8 @@ use Rattle.plan_offers.specs.declared.target.Target.{Target}
 use Rattle.plan_offers.specs.Targets.{target_of, meets_target}
 use Rattle.search_places.specs.declared.search.Search.{Search}
 use Rattle.search_places.specs.Searching.{LeadsTo}
-use Rattle.search_places.specs.Roots.{root_of_split, root_values}
+use Rattle.search_places.specs.Roots.{root_of_split}
+use Rattle.star_value.specs.Roots.{root_values}
 use Rattle.search_places.proofs.Laws.{root_is_called, to_root}
 
 -- what the members of a root's set make that meet the target

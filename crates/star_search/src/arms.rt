@@ -9,9 +9,9 @@ ghost use Rattle.search_places.specs.Searching.{IsOpen, LeadsTo};
 use dominance_prune::PlanSet;
 use glue::glue;
 use lolepop::Entry;
-use search_places::{Search, glued_goal};
+use search_places::Search;
 use star_model::rules::ValueExpr;
-use star_value::Env;
+use star_value::{Env, glued_goal};
 use std::alloc::{AllocError, Global};
 
 /// The plans that Glue makes of the set that the memo has for its goal.

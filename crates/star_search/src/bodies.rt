@@ -12,11 +12,11 @@ use crate::arms::glued_plans;
 use dominance_prune::PlanSet;
 use lolepop::Entry;
 use plan_offers::{add_references, binary_plans, leaf_plans, unary_plans};
-use search_places::{Part, Search, meets, values, with_number, with_value};
+use search_places::{Part, Search, with_number, with_value};
 use star_model::derivations::ForAllValues;
 use star_model::lists::Name;
 use star_model::rules::{ForAll, PlanExpr};
-use star_value::{Env, numbered, operator};
+use star_value::{Env, meets, numbered, operator, values};
 use std::alloc::{AllocError, Global};
 
 /// The best plans of an expression under bindings.

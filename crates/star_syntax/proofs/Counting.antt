@@ -8,8 +8,8 @@ use Rattle.star_model.specs.declared.rules.Flavour.{Flavour}
 use Rattle.star_model.specs.declared.rules.ValueExpr.{ValueExpr}
 use Rattle.star_model.specs.declared.rules.PlanExpr.{PlanExpr}
 use Rattle.star_model.specs.declared.rules.PlanExpr.TheVariants as made
-use Rattle.spelling.specs.RuleLimits.{nesting}
-use Rattle.spelling.specs.RuleLimitsCases.{nesting-Reference, nesting-Glue, nesting-Leaf, nesting-Unary, nesting-Binary}
+use Rattle.star_model.specs.WellFormedRules.{nesting}
+use Rattle.star_model.specs.WellFormedRulesCases.{nesting-Reference, nesting-Glue, nesting-Leaf, nesting-Unary, nesting-Binary}
 
 some_nesting : (p : PlanExpr) → 0 < nesting p
 unfolding nesting

@@ -7,10 +7,11 @@ use Rattle.star_model.specs.declared.rules.FormulaDef.{FormulaDef}
 use Rattle.star_model.specs.declared.rules.StarDef.{StarDef}
 use Rattle.spelling.specs.Lexemes.{Lexeme, MaybeEnded, lexeme_of, lexemes_of}
 use Rattle.spelling.specs.Syntax.{IsUnderstood}
-use Rattle.spelling.specs.Rules.{OfFormula, OfStar, SpellsFormulaDef, SpellsStar}
-use Rattle.spelling.specs.RuleLimits.{SpellsDefinition, SpellsNumbered}
-use Rattle.spelling.specs.StarReading.{star_of}
-use Rattle.spelling.proofs.Laws.{star_is_read, few_nodes}
+use Rattle.rule_grammar.specs.Rules.{OfFormula, OfStar, SpellsFormulaDef, SpellsStar}
+use Rattle.rule_grammar.specs.RuleLimits.{SpellsDefinition, SpellsNumbered}
+use Rattle.rule_grammar.specs.StarReading.{star_of}
+use Rattle.rule_grammar.proofs.Laws.{star_is_read}
+use Rattle.cost_formula.proofs.Laws.{few_nodes}
 use Rattle.star_syntax.specs.declared.definition.Definition.{Definition}
 use Rattle.star_syntax.specs.declared.definition.Definition.TheVariants.{Formula, Star}
 use Rattle.star_syntax.specs.Definitions.{defined, HasFewNodes}

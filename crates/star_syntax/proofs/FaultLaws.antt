@@ -15,15 +15,16 @@ use Rattle.spelling.specs.LimitsCases.{one_limit}
 use Rattle.spelling.specs.Syntax.{IsUnderstood, IsStrangeAt}
 use Rattle.star_model.specs.declared.rules.Which.{Which}
 use Rattle.star_model.specs.declared.rules.Which.TheVariants as which
-use Rattle.spelling.specs.Flavours.{which_word}
-use Rattle.spelling.specs.Rules.{Definition, OfFormula, OfStar, SpellsRules}
-use Rattle.spelling.specs.RuleLimits.{RuleStatement, SpellsNumbered, SpellsDefinition, AreSpelled, SaysRules, Beyond, IsBeyond}
-use Rattle.spelling.proofs.Laws.{one_list, one_formula_def, one_star}
+use Rattle.star_model.specs.FlavourWords.{which_word}
+use Rattle.rule_grammar.specs.Rules.{Definition, OfFormula, OfStar, SpellsRules}
+use Rattle.rule_grammar.specs.RuleLimits.{RuleStatement, SpellsNumbered, SpellsDefinition, AreSpelled, SaysRules, Beyond, IsBeyond}
+use Rattle.spelling.proofs.Laws.{one_list}
+use Rattle.rule_grammar.proofs.Laws.{one_formula_def, one_star}
 use Rattle.star_syntax.specs.Faults.{IsLimitAt, HasFault, fault_rank, IsFirstFault, IsRead}
 use Rattle.star_syntax.specs.declared.statements.RulesSoFar.{RulesSoFar}
 use Rattle.star_syntax.specs.Statements.{lists_of, StatementsRead}
 use Rattle.star_syntax.proofs.ReadLaws.{understood}
-use Rattle.star_syntax.proofs.WellFormedLaws.{rules_formed}
+use Rattle.star_syntax.proofs.WellFormedLaws.{rules_formed, rules_fit}
 
 -- ---- one text says one list of statements
 
@@ -168,6 +169,7 @@ read_whole : (source : List ℕ) (statements : List RuleStatement) (rules : Rule
 read_whole source statements rules none says spells within = record {
   spells = spells;
   formed = rules_formed source rules statements spells says within;
+  fits = rules_fit source rules statements spells says within;
   clear = no_fault source statements none says within;
 }
 

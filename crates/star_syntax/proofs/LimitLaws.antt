@@ -11,8 +11,9 @@ use Rattle.star_model.specs.declared.rules.StarDef.{StarDef}
 use Rattle.star_model.specs.declared.rules.FormulaDef.{FormulaDef}
 use Rattle.spelling.specs.Lexemes.{Lexeme, Word, Number, Text, Symbol}
 use Rattle.spelling.specs.Limits.{limit_rank, HasGreatNumber, HasLongWord}
-use Rattle.spelling.specs.Rules.{Definition, OfFormula, OfStar}
-use Rattle.spelling.specs.RuleLimits.{RuleStatement, HasAlternative, Beyond, BeyondFirst, IsBeyond, count_of_stars, nesting}
+use Rattle.rule_grammar.specs.Rules.{Definition, OfFormula, OfStar}
+use Rattle.rule_grammar.specs.RuleLimits.{RuleStatement, HasAlternative, Beyond, BeyondFirst, IsBeyond, count_of_stars}
+use Rattle.star_model.specs.WellFormedRules.{nesting}
 use Rattle.star_syntax.specs.LimitTests.{is_great, is_long, has_many_ranges, is_deep, star_limit, formula_limit, definition_limit, limit_beyond}
 
 pub not_less : (m n : ℕ) → (m < n → ⊥) → n ≤ m

@@ -5,13 +5,14 @@ use Rattle.sb_text.specs.Refusal.{AreTokens}
 use Rattle.sb_text.specs.Tokens.{Lexed}
 use Rattle.sb_text.specs.Statements.{Part, parts}
 use Rattle.sb_text.specs.declared.token.Token.{Token}
-use Rattle.spelling.specs.Lexemes.{Lexeme, MaybeEnded, Every, ended, statements_in}
+use Rattle.spelling.specs.Lexemes.{Lexeme, MaybeEnded, ended, statements_in}
+use Rattle.star_model.specs.Every.{Every}
 use Rattle.spelling.specs.Cursors.{part_said, IsPartOf}
 use Rattle.spelling.specs.Firsts.{FirstFrom}
 use Rattle.spelling.specs.Syntax.{IsUnderstood, IsStrangeAt}
-use Rattle.spelling.specs.Rules as rule
-use Rattle.spelling.specs.Rules.{Definition, OfFormula, OfStar, SpellsFormulaDef, SpellsStar}
-use Rattle.spelling.specs.RuleLimits.{RuleStatement, SpellsNumbered, SpellsDefinition, AreSpelled, SaysRules}
+use Rattle.rule_grammar.specs.Rules as rule
+use Rattle.rule_grammar.specs.Rules.{Definition, OfFormula, OfStar, SpellsFormulaDef, SpellsStar}
+use Rattle.rule_grammar.specs.RuleLimits.{RuleStatement, SpellsNumbered, SpellsDefinition, AreSpelled, SaysRules}
 use Rattle.spelling.proofs.Laws.{parts_said, parts_hold, parts_few}
 use Rattle.star_syntax.specs.declared.statements.RulesSoFar.{RulesSoFar}
 use Rattle.star_syntax.specs.Statements.{lists_of, AreSoFar, GoesOn}

@@ -11,9 +11,9 @@ use Rattle.star_model.specs.declared.rules.RuleFile.{RuleFile}
 use Rattle.spelling.specs.Lexemes.{Lexeme, MaybeEnded}
 use Rattle.spelling.specs.Firsts.{NoneHas}
 use Rattle.spelling.specs.FirstsCases.{none_more, first_is_new, first_stays}
-use Rattle.spelling.specs.Rules as rule
-use Rattle.spelling.specs.Rules.{Definition, OfFormula, OfStar, SpellsFormulaDef, SpellsStar, SpellsDefinitions}
-use Rattle.spelling.specs.RuleLimits.{RuleStatement, SpellsNumbered, AreSpelled, BeyondFirst, IsBeyond, count_of_stars}
+use Rattle.rule_grammar.specs.Rules as rule
+use Rattle.rule_grammar.specs.Rules.{Definition, OfFormula, OfStar, SpellsFormulaDef, SpellsStar, SpellsDefinitions}
+use Rattle.rule_grammar.specs.RuleLimits.{RuleStatement, SpellsNumbered, AreSpelled, BeyondFirst, IsBeyond, count_of_stars}
 use Rattle.star_syntax.specs.declared.statements.RulesSoFar.{RulesSoFar}
 use Rattle.star_syntax.specs.Faults.{IsLimitAt}
 use Rattle.star_syntax.specs.LimitTests.{limit_beyond}

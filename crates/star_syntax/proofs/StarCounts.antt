@@ -1,7 +1,7 @@
 -- How many STARs statements define, with one more.
 use Rattle.std.proofs.Common.{◌≡◌, ◌+◌, ℕ, List, [], ◌∷◌, ◌++◌, cond, arith}
 use Rattle.std.proofs.lemmas.List.Sums.{sum_by-append}
-use Rattle.spelling.specs.RuleLimits.{RuleStatement, is_star, count_of_stars}
+use Rattle.rule_grammar.specs.RuleLimits.{RuleStatement, is_star, count_of_stars}
 
 abbrev one_if_star : RuleStatement → ℕ
 one_if_star s = cond (is_star s) 1 0

@@ -10,12 +10,16 @@ use Rattle.star_model.specs.declared.faults.LimitKind.TheVariants as limit
 use Rattle.star_model.specs.declared.rules.StarDef.{StarDef}
 use Rattle.star_model.specs.declared.rules.FormulaDef.{FormulaDef}
 use Rattle.star_model.specs.declared.rules.RuleFile.{RuleFile}
-use Rattle.spelling.specs.Lexemes.{Lexeme, Every}
+use Rattle.spelling.specs.Lexemes.{Lexeme}
+use Rattle.star_model.specs.Every.{Every}
 use Rattle.spelling.specs.Firsts.{NoneFrom, NoneHas}
-use Rattle.spelling.specs.Rules as rule
-use Rattle.spelling.specs.Rules.{Definition, OfFormula, OfStar, SpellsFormulaDef, SpellsStar, SpellsDefinitions, SpellsRules, HasFewRanges, IsStar}
-use Rattle.spelling.specs.RuleLimits.{RuleStatement, SpellsNumbered, AreSpelled, SaysRules, IsBeyond, count_of_stars, nesting, IsShallow, KeepsStarLimits, KeepsFormulaLimits, WellFormedRules}
-use Rattle.spelling.proofs.Laws.{great_numbers_stay, one_rule_file}
+use Rattle.rule_grammar.specs.Rules as rule
+use Rattle.spelling.specs.Limits.{HasGreatNumber, HasLongWord}
+use Rattle.rule_grammar.specs.Rules.{formula_def_lexemes, star_lexemes, Definition, OfFormula, OfStar, SpellsFormulaDef, SpellsStar, SpellsDefinitions, SpellsRules}
+use Rattle.star_model.specs.WellFormedRules.{HasFewRanges, IsStar, nesting, IsShallow, KeepsStarLimits, KeepsFormulaLimits, WellFormedRules}
+use Rattle.rule_grammar.specs.RuleLimits.{HasSmallNumbers, HasShortWords, KeepsLexemeLimits, RuleStatement, SpellsNumbered, AreSpelled, SaysRules, IsBeyond, count_of_stars}
+use Rattle.cost_formula.proofs.Laws.{great_numbers_stay}
+use Rattle.rule_grammar.proofs.Laws.{one_rule_file}
 use Rattle.star_syntax.specs.Statements.{lists_of}
 use Rattle.star_syntax.proofs.StarCounts.{count_more}
 use Rattle.star_syntax.proofs.LimitLaws.{not_less}
@@ -66,7 +70,7 @@ record Numbers (n : ℕ) (formulas : List FormulaDef) (stars : List StarDef) : T
   differ_ : differ nat_eq (formula_numbers formulas ++ star_numbers stars) ≡ true
 
 numbers : {n : ℕ} {lists : List (List Lexeme)} {formulas : List FormulaDef} {stars : List StarDef} → SpellsDefinitions n lists formulas stars → Numbers n formulas stars
-numbers rule.none = record { of_formulas = tt; of_stars = tt; differ_ = refl }
+numbers rule.none = record { numbers = tt; words = tt; of_formulas = tt; of_stars = tt; differ_ = refl }
 numbers {n} (rule.formula {d = d} {formulas = formulas} {stars = stars} p h) =
     let later = numbers h in
     record {
@@ -125,23 +129,29 @@ every_from P (x ∷ xs) each = (each x (0, omega arith, refl), every_from P xs (
 
 keeps_formula : (n : ℕ) (before : List RuleStatement) (lexemes : List Lexeme) (d : FormulaDef) → SpellsFormulaDef n lexemes d
     → (IsBeyond before (record { lexemes = lexemes; defines = OfFormula d }) → ⊥) → KeepsFormulaLimits d
-keeps_formula n before lexemes d spells fine = record {
-  numbers = λ great. fine (limit.Number, rw spells.are (great_numbers_stay spells.formula d.formula spells.spelled great));
-  nodes = not_less 256 (length (nodes d.formula)) (λ large. fine (limit.Formula, large));
-}
+keeps_formula n before lexemes d spells fine = record { nodes = not_less 256 (length (nodes d.formula)) (λ large. fine (limit.Formula, large)) }
+
+small_numbers : (n : ℕ) (before : List RuleStatement) (lexemes : List Lexeme) (d : FormulaDef) → SpellsFormulaDef n lexemes d
+    → (IsBeyond before (record { lexemes = lexemes; defines = OfFormula d }) → ⊥) → HasGreatNumber (formula_def_lexemes d) → ⊥
+small_numbers n before lexemes d spells fine great = fine (limit.Number, rw spells.are (great_numbers_stay spells.formula d.formula spells.spelled great))
 
 keeps_star : (n : ℕ) (before : List RuleStatement) (lexemes : List Lexeme) (s : StarDef) → SpellsStar n lexemes s
     → (IsBeyond before (record { lexemes = lexemes; defines = OfStar s }) → ⊥) → KeepsStarLimits s
 keeps_star n before lexemes s spells fine = record {
-  words = λ long_. fine (limit.Name, rw spells.are long_);
   parameters = not_less 8 (length s.params) (λ many. fine (limit.Params, many));
   alternatives = not_less 16 (length s.alternatives) (λ many. fine (limit.Alternatives, many));
   ranges = every_from HasFewRanges s.alternatives (λ a is. not_less 2 (length a.ranges) (λ many. fine (limit.ForAlls, (a, is, many))));
   bodies = every_from IsShallow s.alternatives (λ a is. not_less 8 (nesting a.body) (λ deep. fine (limit.Depth, (a, is, deep))));
 }
 
+short_words : (n : ℕ) (before : List RuleStatement) (lexemes : List Lexeme) (s : StarDef) → SpellsStar n lexemes s
+    → (IsBeyond before (record { lexemes = lexemes; defines = OfStar s }) → ⊥) → HasLongWord (star_lexemes s) → ⊥
+short_words n before lexemes s spells fine long_ = fine (limit.Name, rw spells.are long_)
+
 -- what these statements define keeps the limits, behind others
 record Keep (before : List RuleStatement) (formulas : List FormulaDef) (stars : List StarDef) : Type 0 where
+  numbers : Every HasSmallNumbers formulas
+  words : Every HasShortWords stars
   of_formulas : Every KeepsFormulaLimits formulas
   of_stars : Every KeepsStarLimits stars
   are_stars : Every IsStar stars
@@ -153,6 +163,8 @@ keep_first : (n : ℕ) (before : List RuleStatement) (lexemes : List Lexeme) (de
 keep_first n before lexemes (OfFormula d) formulas stars spells fine later =
     let count = count_more before (record { lexemes = lexemes; defines = OfFormula d }) in
     record {
+      numbers = (small_numbers n before lexemes d spells fine, later.numbers);
+      words = later.words;
       of_formulas = (keeps_formula n before lexemes d spells fine, later.of_formulas);
       of_stars = later.of_stars;
       are_stars = later.are_stars;
@@ -162,6 +174,8 @@ keep_first n before lexemes (OfStar s) formulas stars spells fine later =
     let count = count_more before (record { lexemes = lexemes; defines = OfStar s }) in
     let one_more = not_less 64 (count_of_stars before + 1) (λ many. fine (limit.Stars, omega (arith, many))) in
     record {
+      numbers = later.numbers;
+      words = (short_words n before lexemes s spells fine, later.words);
       of_formulas = later.of_formulas;
       of_stars = (keeps_star n before lexemes s spells fine, later.of_stars);
       are_stars = (spells.stands, later.are_stars);
@@ -189,3 +203,13 @@ pub rules_formed : (text : List ℕ) (rules : RuleFile) (statements : List RuleS
 rules_formed text rules statements spells says within =
     let same : rules_of statements ≡ rules = one_rule_file text (rules_of statements) rules (says_spells text statements says) spells in
     subst WellFormedRules same (statements_formed text statements says within)
+
+statements_fit : (text : List ℕ) (statements : List RuleStatement) → SaysRules text statements → NoneHas IsBeyond statements → KeepsLexemeLimits (rules_of statements)
+statements_fit text statements says within =
+    let keeps = keep 1 [] statements says.spelled within in
+    record { numbers = keeps.numbers; words = keeps.words }
+
+pub rules_fit : (text : List ℕ) (rules : RuleFile) (statements : List RuleStatement) → SpellsRules text rules → SaysRules text statements → NoneHas IsBeyond statements → KeepsLexemeLimits rules
+rules_fit text rules statements spells says within =
+    let same : rules_of statements ≡ rules = one_rule_file text (rules_of statements) rules (says_spells text statements says) spells in
+    subst KeepsLexemeLimits same (statements_fit text statements says within)

@@ -3,13 +3,13 @@ use Rattle.std.specs.Prelude.{◌≡◌, ◌<◌, ◌^◌, ℕ, true, length, Re
 use Rattle.star_model.specs.Monotone.{nodes}
 use Rattle.spelling.specs.Lexemes.{MaybeEnded}
 use Rattle.spelling.specs.Syntax.{IsUnderstood}
-use Rattle.spelling.specs.Rules.{OfFormula, OfStar}
-use Rattle.spelling.specs.Rules as rules
-use Rattle.spelling.specs.RuleLimits.{SpellsNumbered, SpellsDefinition}
+use Rattle.rule_grammar.specs.Rules.{OfFormula, OfStar}
+use Rattle.rule_grammar.specs.Rules as rules
+use Rattle.rule_grammar.specs.RuleLimits.{SpellsNumbered, SpellsDefinition}
 use Rattle.star_syntax.specs.declared.definition.Definition.{Definition}
 use Rattle.star_syntax.specs.declared.definition.Definition.TheVariants.{Formula, Star}
-use Rattle.rule_reading.specs.declared.unread.Unread.{Unread}
-use Rattle.rule_reading.specs.declared.unread.Unread.TheVariants.{Strange, Memory}
+use Rattle.spelling.specs.declared.unread.Unread.{Unread}
+use Rattle.spelling.specs.declared.unread.Unread.TheVariants.{Strange, Memory}
 
 abbrev pub defined : Definition → rules.Definition
 defined (Formula d) = OfFormula d

@@ -8,8 +8,9 @@ use Rattle.star_model.specs.declared.faults.RuleFault.TheVariants.{Lexical, TooD
 use Rattle.star_model.specs.declared.rules.RuleFile.{RuleFile}
 use Rattle.spelling.specs.Firsts.{FirstAt}
 use Rattle.spelling.specs.Syntax.{IsStrangeAt}
-use Rattle.spelling.specs.Rules.{SpellsRules}
-use Rattle.spelling.specs.RuleLimits.{RuleStatement, SpellsDefinition, SaysRules, IsBeyond, BeyondFirst, WellFormedRules}
+use Rattle.rule_grammar.specs.Rules.{SpellsRules}
+use Rattle.rule_grammar.specs.RuleLimits.{RuleStatement, SpellsDefinition, SaysRules, IsBeyond, BeyondFirst, KeepsLexemeLimits}
+use Rattle.star_model.specs.WellFormedRules.{WellFormedRules}
 
 -- the statement with this number, from 1, is the first beyond a limit, and this is the first limit that it goes beyond
 pub record IsLimitAt (statements : List RuleStatement) (k : ℕ) (what : LimitKind) : Type 0 where
@@ -53,6 +54,7 @@ pub record IsFirstFault (text : List ℕ) (fault : RuleFault) : Type 0 where
 pub record IsRead (text : List ℕ) (rules : RuleFile) : Type 0 where
   pub spells : SpellsRules text rules
   pub formed : WellFormedRules rules
+  pub fits : KeepsLexemeLimits rules
   pub clear : (fault : RuleFault) → HasFault text fault → ⊥
 
 -- what reading a text answers; want of memory may come at any text

@@ -9,8 +9,9 @@ use Rattle.star_model.specs.declared.rules.StarDef.{StarDef}
 use Rattle.star_model.specs.declared.rules.Alternative.{Alternative}
 use Rattle.star_model.specs.declared.rules.FormulaDef.{FormulaDef}
 use Rattle.spelling.specs.Lexemes.{Lexeme, Word, Number, Text, Symbol}
-use Rattle.spelling.specs.Rules.{Definition, OfFormula, OfStar}
-use Rattle.spelling.specs.RuleLimits.{RuleStatement, nesting}
+use Rattle.rule_grammar.specs.Rules.{Definition, OfFormula, OfStar}
+use Rattle.rule_grammar.specs.RuleLimits.{RuleStatement}
+use Rattle.star_model.specs.WellFormedRules.{nesting}
 
 abbrev pub is_great : Lexeme → Bool
 is_great (Number n) = nat_lt top n

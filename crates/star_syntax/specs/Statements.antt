@@ -7,10 +7,10 @@ use Rattle.star_model.specs.declared.rules.RuleFile.{RuleFile}
 use Rattle.spelling.specs.Lexemes.{Lexeme, MaybeEnded}
 use Rattle.spelling.specs.Firsts.{NoneHas}
 use Rattle.spelling.specs.Syntax.{IsUnderstood, IsStrangeAt}
-use Rattle.spelling.specs.Rules.{Definition, OfFormula, OfStar, SpellsDefinitions}
-use Rattle.spelling.specs.RuleLimits.{RuleStatement, SpellsDefinition, SpellsNumbered, AreSpelled, SaysRules, IsBeyond, count_of_stars}
-use Rattle.rule_reading.specs.declared.unread.Unread.{Unread}
-use Rattle.rule_reading.specs.declared.unread.Unread.TheVariants.{Strange, Memory}
+use Rattle.rule_grammar.specs.Rules.{Definition, OfFormula, OfStar, SpellsDefinitions}
+use Rattle.rule_grammar.specs.RuleLimits.{RuleStatement, SpellsDefinition, SpellsNumbered, AreSpelled, SaysRules, IsBeyond, count_of_stars}
+use Rattle.spelling.specs.declared.unread.Unread.{Unread}
+use Rattle.spelling.specs.declared.unread.Unread.TheVariants.{Strange, Memory}
 use Rattle.star_syntax.specs.declared.statements.RulesSoFar.{RulesSoFar}
 use Rattle.star_syntax.specs.Faults.{IsLimitAt}
 use Rattle.star_syntax.specs.LimitTests.{limit_beyond}

@@ -4,7 +4,7 @@ ghost use Rattle.std.specs.List.{list_any};
 ghost use Rattle.star_model.specs.Monotone.{nodes};
 ghost use Rattle.spelling.specs.Cursors.{AreTokensOf};
 ghost use Rattle.spelling.specs.Lexemes.{lexemes_of};
-ghost use Rattle.spelling.specs.RuleLimits.{nesting};
+ghost use Rattle.star_model.specs.WellFormedRules.{nesting};
 ghost use Rattle.star_syntax.specs.LimitTests.{has_many_ranges, is_deep, star_limit, formula_limit, limit_beyond};
 ghost use Rattle.star_syntax.specs.Definitions.{defined, HasFewNodes};
 

@@ -5,8 +5,9 @@ ghost use Rattle.sb_text.specs.Refusal.{fault_of};
 ghost use Rattle.star_model.specs.declared.faults.RuleFault.{RuleFault};
 ghost use Rattle.star_model.specs.declared.rules.RuleFile.{RuleFile};
 ghost use Rattle.spelling.specs.Firsts.{NoneHas};
-ghost use Rattle.spelling.specs.Rules.{SpellsRules};
-ghost use Rattle.spelling.specs.RuleLimits.{RuleStatement, SaysRules, IsBeyond, WellFormedRules};
+ghost use Rattle.rule_grammar.specs.Rules.{SpellsRules};
+ghost use Rattle.rule_grammar.specs.RuleLimits.{RuleStatement, SaysRules, IsBeyond, KeepsLexemeLimits};
+ghost use Rattle.star_model.specs.WellFormedRules.{WellFormedRules};
 ghost use Rattle.star_syntax.specs.Faults.{HasFault, IsFirstFault};
 
 /// One text has at most one first fault.
@@ -20,10 +21,12 @@ pub fn one_list_of_statements()
 {}
 
 /// A text has no fault whose tokens have none, and whose statements are understood and keep the limits. What it spells is then well
-/// formed.
+/// formed, and its words and numbers keep theirs.
 pub fn statements_without_fault_are_read()
     ensures clear { (text : List ℕ) (statements : List RuleStatement) → fault_of text ≡ None → SaysRules text statements → NoneHas IsBeyond statements
         → (fault : RuleFault) → HasFault text fault → ⊥ }
     ensures formed { (text : List ℕ) (rules : RuleFile) (statements : List RuleStatement) → SpellsRules text rules → SaysRules text statements → NoneHas IsBeyond statements
         → WellFormedRules rules }
+    ensures fits { (text : List ℕ) (rules : RuleFile) (statements : List RuleStatement) → SpellsRules text rules → SaysRules text statements → NoneHas IsBeyond statements
+        → KeepsLexemeLimits rules }
 {}

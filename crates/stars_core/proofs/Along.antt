@@ -1,14 +1,14 @@
 -- A command on its way along its files.
 use Rattle.std.proofs.Common.{◌≡◌, ◌+◌, ◌++◌, ℕ, List, [], ◌∷◌, length, take, Option, Some, refl, ap, arith, false, string_bytes}
 use Rattle.std.specs.Prelude.{slice_get}
-use Rattle.sb_outside.specs.Shelf.{Files, ShelfState, Goes, GoesBy, NoFault, TellsBytes}
+use Rattle.sb_outside.specs.Shelf.{Files, ShelfState, Goes, NoFault, TellsBytes}
 use Rattle.sb_outside.proofs.Laws.{no_call, goes_on, no_fault_on, fails_on}
 use Rattle.stars_core.specs.declared.refusal.Refusal.{Refusal}
 use Rattle.stars_core.specs.declared.refusal.Refusal.TheVariants.{Usage, Unread, Refused, NotDerived, Memory}
 use Rattle.stars_core.specs.declared.command.Command.{Command}
 use Rattle.stars_core.specs.CommandLine.{Request}
 use Rattle.stars_core.specs.Given.{Given}
-use Rattle.stars_core.specs.Faults.{Stops, Passes, PassAll}
+use Rattle.stars_core.specs.Faults.{Stops, Passes}
 use Rattle.stars_core.specs.Shelves.{HeldAs, NotTaken, RanInto, CameAlong}
 use Rattle.stars_core.proofs.FaultLaws.{pass_more}
 

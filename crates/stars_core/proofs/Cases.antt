@@ -1,5 +1,5 @@
 -- Three texts that are judged one after the other, read or given.
-use Rattle.std.proofs.Common.{◌≡◌, ◌++◌, ℕ, List, [], ◌∷◌, refl}
+use Rattle.std.proofs.Common.{◌++◌, ℕ, List, [], ◌∷◌}
 use Rattle.sb_outside.specs.Shelf.{ShelfState, Goes, NoFault, TellsBytes}
 use Rattle.star_model.specs.declared.catalogue.Catalogue.{Catalogue as CatalogueTree}
 use Rattle.star_model.specs.declared.query.Query.{Query as QueryTree}
@@ -11,7 +11,7 @@ use Rattle.stars_core.specs.declared.refusal.Refusal.TheVariants.{Usage, Unread,
 use Rattle.stars_core.specs.declared.command.Command.{Command}
 use Rattle.stars_core.specs.CommandLine.{Request, three_requests, four_requests}
 use Rattle.stars_core.specs.Given.{Given, Over}
-use Rattle.stars_core.specs.Faults.{Stops, PassAll}
+use Rattle.stars_core.specs.Faults.{PassAll}
 use Rattle.stars_core.specs.Judging.{Refuses, RulesPass, CataloguePasses, QueryPasses, DerivationPasses, StopsAlways, StopsOver}
 use Rattle.stars_core.specs.Saying.{three, four}
 use Rattle.stars_core.specs.Judged.{NotAnswered}

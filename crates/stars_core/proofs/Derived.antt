@@ -4,11 +4,6 @@ use Rattle.std.specs.Prelude.{slice_get}
 use Rattle.std.proofs.lemmas.List.{append-nil, append_assoc}
 use Rattle.sb_outside.specs.Shelf.{Files, ShelfState}
 use Rattle.sb_outside.specs.Sink.{SinkState}
-use Rattle.star_model.specs.Derivations.{IsRoot}
-use Rattle.star_model.specs.declared.derivations.Deriv.{Deriv}
-use Rattle.star_model.specs.declared.plans.Props.{Props}
-use Rattle.star_model.specs.declared.rules.RuleFile.{RuleFile}
-use Rattle.star_model.specs.declared.query.Query.{Query as QueryTree}
 use Rattle.stars_core.specs.declared.command.Command.{Command}
 use Rattle.stars_core.specs.declared.command.Command.TheVariants as commands
 use Rattle.stars_core.specs.declared.refusal.TextKind.{TextKind}

@@ -11,8 +11,8 @@ use Rattle.star_check.specs.Checking.{Checks}
 use Rattle.star_check.proofs.Laws as check_laws
 use Rattle.star_model.specs.declared.catalogue.Catalogue.{Catalogue as CatalogueTree}
 use Rattle.star_model.specs.declared.query.Query.{Query as QueryTree}
-use Rattle.spelling.specs.Queries.{SpellsQuery}
-use Rattle.spelling.proofs.Laws.{one_rule_file, one_catalogue, one_query}
+use Rattle.rule_grammar.proofs.Laws.{one_rule_file}
+use Rattle.catalogue.proofs.Laws.{one_catalogue}
 use Rattle.catalogue.specs.declared.fault.CatFault.{CatFault}
 use Rattle.catalogue.specs.declared.fault.CatFault.TheVariants as cat
 use Rattle.query_graph.specs.declared.fault.QueryFault.TheVariants as que

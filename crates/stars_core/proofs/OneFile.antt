@@ -1,9 +1,8 @@
 -- A file that is fetched and judged.
-use Rattle.std.proofs.Common.{◌≡◌, ◌<◌, ◌≤◌, ℕ, List, length, Result, Ok, Err, arith, Vec, string_bytes}
+use Rattle.std.proofs.Common.{◌≡◌, ◌<◌, ℕ, List, length, Result, Ok, Err, arith, Vec, string_bytes}
 use Rattle.std.specs.declared.alloc.Global.{Global}
-use Rattle.sb_outside.specs.Shelf.{ShelfState, NoFault}
+use Rattle.sb_outside.specs.Shelf.{ShelfState}
 use Rattle.sb_outside.proofs.Laws.{long_content}
-use Rattle.stars_core.specs.declared.refusal.TextKind.{TextKind}
 use Rattle.stars_core.specs.declared.refusal.Refusal.{Refusal}
 use Rattle.stars_core.specs.declared.refusal.Refusal.TheVariants.{Usage, Unread, Refused, NotDerived, Memory}
 use Rattle.stars_core.specs.CommandLine.{Request}

@@ -1,5 +1,5 @@
 -- The text of a plan spells its derivation.
-use Rattle.std.proofs.Common.{◌≡◌, ◌≤◌, ◌<◌, ◌^◌, ◌++◌, ℕ, List, [], ◌∷◌, length, refl, sym, subst, arith, true}
+use Rattle.std.proofs.Common.{◌≡◌, ◌≤◌, ◌++◌, ℕ, List, [], ◌∷◌, refl, sym, subst, arith, true}
 use Rattle.std.specs.Prelude.{codes, decimal}
 use Rattle.std.specs.List.{AllPass, list_all}
 use Rattle.std.proofs.lemmas.List.Elements.{All-append}
@@ -13,12 +13,12 @@ use Rattle.star_model.specs.declared.query.Query.{Query as QueryTree}
 use Rattle.star_model.specs.declared.derivations.Deriv.{Deriv}
 use Rattle.star_model.specs.declared.plans.Props.{Props}
 use Rattle.sb_text.specs.Front.{in_comment}
-use Rattle.spelling.specs.Lexemes.{Every}
+use Rattle.star_model.specs.Every.{Every}
 use Rattle.spelling.specs.Layout.{commented}
-use Rattle.spelling.specs.Derivations.{SpellsDerivation, canonical}
-use Rattle.spelling.specs.Rules.{SpellsRules, KeepsCounts, HasFewParts}
-use Rattle.spelling.specs.RuleLimits.{WellFormedRules, KeepsStarLimits}
-use Rattle.spelling.proofs.Laws.{plan_text_spells}
+use Rattle.derivation_reading.specs.Derivations.{SpellsDerivation, canonical}
+use Rattle.rule_grammar.specs.Rules.{SpellsRules, HasFewParts}
+use Rattle.star_model.specs.WellFormedRules.{WellFormedRules, KeepsStarLimits}
+use Rattle.derivation_print.proofs.Laws.{plan_text_spells}
 use Rattle.stars_core.specs.declared.status.Ending.TheVariants.{Done}
 use Rattle.stars_core.specs.Plan.{PlanText, AreSmall, numbers}
 use Rattle.stars_core.proofs.Comments.{decimal_in_comment}

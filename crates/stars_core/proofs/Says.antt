@@ -4,9 +4,12 @@ use Rattle.star_model.specs.declared.catalogue.Catalogue.{Catalogue as Catalogue
 use Rattle.star_model.specs.declared.query.Query.{Query as QueryTree}
 use Rattle.star_model.specs.declared.rules.RuleFile.{RuleFile}
 use Rattle.star_model.specs.declared.derivations.Deriv.{Deriv}
-use Rattle.spelling.specs.Catalogues.{SpellsCatalogue}
-use Rattle.spelling.specs.Queries.{SpellsQuery}
-use Rattle.spelling.proofs.Laws.{one_rule_file, one_catalogue, one_query, keeps_catalogue, one_derivation}
+use Rattle.catalogue.specs.Catalogues.{SpellsCatalogue}
+use Rattle.query_graph.specs.Queries.{SpellsQuery}
+use Rattle.rule_grammar.proofs.Laws.{one_rule_file}
+use Rattle.catalogue.proofs.Laws.{one_catalogue}
+use Rattle.query_graph.proofs.Laws.{one_query, keeps_catalogue}
+use Rattle.derivation_reading.proofs.Laws.{one_derivation}
 use Rattle.stars_core.specs.declared.command.Command.{Command}
 use Rattle.stars_core.specs.declared.command.Command.TheVariants.{Check, Plan, Frontier, Verify}
 use Rattle.stars_core.specs.declared.status.Ending.{Ending}

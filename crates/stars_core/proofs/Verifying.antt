@@ -1,15 +1,14 @@
 -- What a derivation is answered.
-use Rattle.std.proofs.Common.{◌≡◌, ◌≤◌, ◌<◌, ◌^◌, ℕ, List, [], ◌∷◌, length, Option, Some, Result, Ok, Err, refl, ap, sym, ◌∙◌, arith, string_bytes}
+use Rattle.std.proofs.Common.{◌≡◌, ◌<◌, ◌^◌, ℕ, List, [], Result, Ok, Err, ap, sym, ◌∙◌, arith, string_bytes}
 use Rattle.sb_outside.specs.Shelf.{ShelfState}
-use Rattle.star_model.specs.Derivations.{IsRoot}
 use Rattle.star_model.specs.Expected.{ForQuery}
-use Rattle.star_model.specs.Judging.{Judgement, Vector, FirstInvalid, invalid_number, judge_root, node_count}
+use Rattle.star_model.specs.Judging.{Vector, FirstInvalid, invalid_number, judge_root, node_count}
 use Rattle.star_model.specs.declared.rules.RuleFile.{RuleFile}
 use Rattle.star_model.specs.declared.query.Query.{Query as QueryTree}
 use Rattle.star_model.specs.declared.derivations.Deriv.{Deriv}
 use Rattle.star_model.specs.declared.plans.Props.{Props}
 use Rattle.star_model.proofs.Laws.{judges_root, judges_first}
-use Rattle.spelling.specs.Derivations.{SpellsDerivation}
+use Rattle.derivation_reading.specs.Derivations.{SpellsDerivation}
 use Rattle.derivation_reading.proofs.Laws.{few_nodes}
 use Rattle.stars_core.specs.declared.answer.Answer.{Answer}
 use Rattle.stars_core.specs.declared.command.Command.TheVariants.{Verify}

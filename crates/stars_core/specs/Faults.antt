@@ -5,8 +5,8 @@ use Rattle.star_model.specs.Accepted.{IsRefusedBy}
 use Rattle.star_model.specs.declared.catalogue.Catalogue.{Catalogue as CatalogueTree}
 use Rattle.star_model.specs.declared.faults.RuleFault.{RuleFault}
 use Rattle.star_model.specs.declared.rules.RuleFile.{RuleFile}
-use Rattle.spelling.specs.Rules.{SpellsRules}
-use Rattle.spelling.specs.RuleLimits.{WellFormedRules}
+use Rattle.rule_grammar.specs.Rules.{SpellsRules}
+use Rattle.star_model.specs.WellFormedRules.{WellFormedRules}
 use Rattle.star_syntax.specs.Faults as rule_files
 use Rattle.catalogue.specs.declared.fault.CatFault.{CatFault}
 use Rattle.catalogue.specs.Faults as catalogues

@@ -2,7 +2,7 @@
 use Rattle.std.specs.Prelude.{ℕ, List, [], ◌∷◌}
 use Rattle.star_model.specs.WellFormed.{WellFormedCatalogue}
 use Rattle.star_model.specs.declared.catalogue.Catalogue.{Catalogue as CatalogueTree}
-use Rattle.spelling.specs.Catalogues.{SpellsCatalogue}
+use Rattle.catalogue.specs.Catalogues.{SpellsCatalogue}
 use Rattle.stars_core.specs.declared.refusal.TextKind.{TextKind}
 use Rattle.stars_core.specs.declared.refusal.TextKind.TheVariants.{Rules, Catalogue, Query, Derivation}
 

@@ -9,7 +9,7 @@ use Rattle.star_model.specs.declared.faults.RuleFault.{RuleFault}
 use Rattle.star_model.specs.declared.faults.RuleFault.TheVariants as rules
 use Rattle.star_model.specs.declared.rules.Flavour.{Flavour}
 use Rattle.star_model.specs.declared.rules.Which.{Which}
-use Rattle.spelling.specs.Flavours.{flavour_word, which_word}
+use Rattle.star_model.specs.FlavourWords.{flavour_word, which_word}
 use Rattle.catalogue.specs.declared.fault.CatFault.{CatFault}
 use Rattle.catalogue.specs.declared.fault.CatFault.TheVariants as catalogues
 use Rattle.query_graph.specs.declared.fault.QueryFault.{QueryFault}

@@ -7,9 +7,9 @@ use Rattle.star_model.specs.declared.rules.RuleFile.{RuleFile}
 use Rattle.star_model.specs.declared.query.Query.{Query as QueryTree}
 use Rattle.star_model.specs.declared.derivations.Deriv.{Deriv}
 use Rattle.star_model.specs.declared.plans.Props.{Props}
-use Rattle.spelling.specs.Derivations.{SpellsDerivation, canonical}
-use Rattle.spelling.specs.Rules.{SpellsRules}
-use Rattle.spelling.specs.RuleLimits.{WellFormedRules}
+use Rattle.derivation_reading.specs.Derivations.{SpellsDerivation, canonical}
+use Rattle.rule_grammar.specs.Rules.{SpellsRules}
+use Rattle.star_model.specs.WellFormedRules.{WellFormedRules}
 use Rattle.spelling.specs.Layout.{commented}
 use Rattle.stars_core.specs.declared.status.Ending.{Ending}
 use Rattle.stars_core.specs.declared.status.Ending.TheVariants as endings

@@ -8,12 +8,12 @@ use Rattle.star_model.specs.declared.rules.RuleFile.{RuleFile}
 use Rattle.star_model.specs.declared.query.Query.{Query as QueryTree}
 use Rattle.star_model.specs.declared.derivations.Deriv.{Deriv}
 use Rattle.star_model.specs.declared.plans.Props.{Props}
-use Rattle.spelling.specs.RuleLimits.{WellFormedRules}
+use Rattle.star_model.specs.WellFormedRules.{WellFormedRules}
 use Rattle.spelling.specs.Layout.{commented}
-use Rattle.spelling.specs.Rules.{SpellsRules, canonical as canonical_rules}
-use Rattle.spelling.specs.Derivations.{SpellsDerivation, canonical}
-use Rattle.spelling.specs.Catalogues.{SpellsCatalogue}
-use Rattle.spelling.specs.Queries.{SpellsQuery}
+use Rattle.rule_grammar.specs.Rules.{SpellsRules, canonical as canonical_rules}
+use Rattle.derivation_reading.specs.Derivations.{SpellsDerivation, canonical}
+use Rattle.catalogue.specs.Catalogues.{SpellsCatalogue}
+use Rattle.query_graph.specs.Queries.{SpellsQuery}
 use Rattle.stars_core.specs.declared.command.Command.{Command}
 use Rattle.stars_core.specs.declared.command.Command.TheVariants.{Check, Plan, Frontier, Verify}
 use Rattle.stars_core.specs.declared.refusal.TextKind.TheVariants.{Rules, Catalogue, Query, Derivation}

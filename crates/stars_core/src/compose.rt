@@ -1,5 +1,5 @@
 // What the commands put out.
-ghost use Rattle.std.specs.Prelude.{◌≡◌, [], ◌∷◌};
+ghost use Rattle.std.specs.Prelude.{[], ◌∷◌};
 ghost use Rattle.stars_core.specs.CommandLine.{bytes_of, command_of, three_requests, four_requests};
 ghost use Rattle.sb_outside.specs.Shelf.{GoesBy};
 ghost use Rattle.stars_core.specs.Shelves.{Composed, Ran};

@@ -1,5 +1,5 @@
 // The text of a frontier.
-ghost use Rattle.std.specs.Prelude.{◌≡◌, ◌++◌, IfOk, OnOk, string_bytes};
+ghost use Rattle.std.specs.Prelude.{◌≡◌, ◌++◌, IfOk, OnOk};
 ghost use Rattle.std.specs.List.{flat_map};
 ghost use Rattle.star_model.specs.WellFormed.{WellFormedQuery};
 ghost use Rattle.stars_core.specs.Frontier.{FrontierText, site_name, quantifier_name, column_name, column_text, further_columns, columns_text, yes_or_no, costs_text, place_text, lists_text, frontier_line};

@@ -1,7 +1,7 @@
 // The judgement of one text.
 ghost use Rattle.std.specs.Prelude.{◌≡◌, ◌≤◌, length, Some};
 ghost use Rattle.star_model.specs.WellFormed.{WellFormedCatalogue};
-ghost use Rattle.spelling.specs.RuleLimits.{WellFormedRules};
+ghost use Rattle.star_model.specs.WellFormedRules.{WellFormedRules};
 ghost use Rattle.stars_core.specs.Lines.{rules_line, catalogue_line, query_line, derivation_line};
 ghost use Rattle.stars_core.specs.Judging.{Refuses, SizeJudged, RulesRead, RulesChecked, JudgedRules, JudgedCatalogue, JudgedQuery, JudgedDerivation};
 

@@ -1,5 +1,5 @@
 // The lines that tell the faults of a text.
-ghost use Rattle.std.specs.Prelude.{◌≡◌, ◌++◌, IfOk, Some, codes, string_bytes};
+ghost use Rattle.std.specs.Prelude.{◌≡◌, IfOk, Some, string_bytes};
 ghost use Rattle.stars_core.specs.Lines.{prefix, too_long_line, lexical_line, statement_line, unknown_line, twice_line, limit_word, limit_line, clash_line, catalogue_line, query_line, far_down_line, derivation_line, not_derived_line};
 
 use crate::TextKind;

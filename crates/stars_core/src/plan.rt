@@ -2,7 +2,7 @@
 ghost use Rattle.std.specs.Prelude.{◌≡◌, IfOk, string_bytes};
 ghost use Rattle.star_model.specs.WellFormed.{WellFormedQuery};
 ghost use Rattle.lolepop.specs.Derived.{vector_of};
-ghost use Rattle.spelling.specs.Derivations.{canonical};
+ghost use Rattle.derivation_reading.specs.Derivations.{canonical};
 ghost use Rattle.spelling.specs.Layout.{commented};
 ghost use Rattle.stars_core.specs.Plan.{PlanText, AreSmall, numbers, no_plan};
 ghost use Rattle.stars_core.specs.declared.status.Ending.TheVariants.{Done, NoPlan};

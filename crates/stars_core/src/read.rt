@@ -1,5 +1,5 @@
 // The fetching of one file.
-ghost use Rattle.std.specs.Prelude.{◌≡◌, ◌++◌, IfOk, string_bytes};
+ghost use Rattle.std.specs.Prelude.{◌≡◌, IfOk, string_bytes};
 ghost use Rattle.sb_outside.specs.Shelf.{Goes};
 ghost use Rattle.stars_core.specs.Lines.{cannot_read};
 ghost use Rattle.stars_core.specs.Shelves.{Fetched};

@@ -1,6 +1,6 @@
 // The text of rules that are accepted.
 ghost use Rattle.std.specs.Prelude.{IfOk};
-ghost use Rattle.spelling.specs.RuleLimits.{WellFormedRules};
+ghost use Rattle.star_model.specs.WellFormedRules.{WellFormedRules};
 ghost use Rattle.stars_core.specs.Saying.{RulesText};
 
 use crate::{Answer, Ending};

@@ -1,9 +1,8 @@
 // The top call.
-ghost use Rattle.std.specs.Prelude.{◌≡◌, ◌↔◌, ◌⊎◌, ◌<◌, ◌≤◌, [], ◌∷◌, None, OnOk, OnErr};
+ghost use Rattle.std.specs.Prelude.{◌≡◌, ◌↔◌, ◌⊎◌, ◌<◌, None, OnOk, OnErr};
 ghost use Rattle.sb_outside.specs.Counts.{Rose, RoseAtMost};
 ghost use Rattle.sb_outside.specs.Sink.{Adds, AddsPrefix};
 ghost use Rattle.stars_core.specs.CommandLine.{bytes_of, command_of};
-ghost use Rattle.stars_core.specs.Lines.{cannot_write};
 ghost use Rattle.stars_core.specs.Answers.{Answered, Complete, RefusedExactly, LinePut, calls_of};
 
 use crate::compose::compose;

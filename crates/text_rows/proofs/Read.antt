@@ -9,8 +9,9 @@ use Rattle.star_model.specs.Monotone.{nodes}
 use Rattle.star_model.specs.declared.formula.Formula.{Formula}
 use Rattle.spelling.specs.Lexemes.{lexeme_of, lexemes_of}
 use Rattle.spelling.specs.Cursors.{AreTokensOf}
-use Rattle.spelling.specs.Formulas.{SpellsFormula}
-use Rattle.spelling.proofs.Laws.{own_tokens, few_nodes}
+use Rattle.cost_formula.specs.Formulas.{SpellsFormula}
+use Rattle.spelling.proofs.Laws.{own_tokens}
+use Rattle.cost_formula.proofs.Laws.{few_nodes}
 
 pub are_tokens : (source : List ℕ) (tokens : List Token) → AreTokens source tokens → AreTokensOf source tokens
 are_tokens source tokens are = subst (λ (l : Lexed). AreTokensOf source l.0) are.lexed (own_tokens source)

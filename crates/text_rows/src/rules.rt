@@ -1,5 +1,5 @@
 // Rule files: their canonical texts, and what the check says of them.
-ghost use Rattle.spelling.specs.RuleLimits.{WellFormedRules};
+ghost use Rattle.star_model.specs.WellFormedRules.{WellFormedRules};
 
 use star_check::check_rules;
 use star_model::rules::RuleFile;

@@ -1,12 +1,12 @@
 // Written by tools/worked_texts.
 // What the grammars say of texts.
-ghost use Rattle.spelling.specs.Rules.{SpellsRules};
-ghost use Rattle.spelling.specs.Catalogues.{SpellsCatalogue};
-ghost use Rattle.spelling.specs.Queries.{SpellsQuery};
-ghost use Rattle.spelling.specs.Derivations.{SpellsDerivation};
-ghost use Rattle.spelling.specs.Rules as laid_rules;
-ghost use Rattle.spelling.specs.Catalogues as laid_catalogue;
-ghost use Rattle.spelling.specs.Derivations as laid_derivation;
+ghost use Rattle.rule_grammar.specs.Rules.{SpellsRules};
+ghost use Rattle.catalogue.specs.Catalogues.{SpellsCatalogue};
+ghost use Rattle.query_graph.specs.Queries.{SpellsQuery};
+ghost use Rattle.derivation_reading.specs.Derivations.{SpellsDerivation};
+ghost use Rattle.rule_grammar.specs.Rules as laid_rules;
+ghost use Rattle.catalogue.specs.Catalogues as laid_catalogue;
+ghost use Rattle.derivation_reading.specs.Derivations as laid_derivation;
 ghost use Rattle.std.specs.Prelude.{◌≡◌};
 ghost use Rattle.worked_plans.specs.RuleFiles as rule_file;
 ghost use Rattle.worked_plans.specs.Catalogues as catalogue;

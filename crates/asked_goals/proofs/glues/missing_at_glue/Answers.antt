@@ -1,5 +1,5 @@
 use Rattle.std.proofs.Common.{◌≡◌, ◌∙◌, refl, sym, subst, Some, None, Option, List, IsSome}
-use Rattle.star_model.specs.Expected.{Expected, ForGoal, goal_of}
+use Rattle.star_model.specs.Expected.{ForGoal, goal_of}
 use Rattle.star_model.specs.Meaning.{meaning, as_stream, as_preds}
 use Rattle.lolepop.specs.Derived.{DerivedPlan}
 use Rattle.asked_goals.proofs.Parts.{glue_missing, glue_held}

@@ -1,9 +1,9 @@
-use Rattle.std.proofs.Common.{arith, ◌≡◌, ◌∙◌, sym, ap, subst, refl, ℕ, List, Some, None, true, false, nat_eq}
+use Rattle.std.proofs.Common.{◌≡◌, ◌∙◌, sym, subst, refl, ℕ, List, Some, None, true, false, nat_eq}
 use Rattle.std.specs.Prelude.{Contains}
 use Rattle.std.proofs.lemmas.Bool.{true≢false, ne_eqb}
 use Rattle.star_model.specs.Sets.{size, splits}
 use Rattle.star_model.specs.Splits.{splits_left}
-use Rattle.star_model.specs.Expected.{may_split, root_call}
+use Rattle.star_model.specs.Expected.{root_call}
 use Rattle.exchange.specs.Asking.{AsksFrom}
 use Rattle.exchange.proofs.Laws.{split_listed}
 use Rattle.asked_goals.proofs.GoalLaws.{holds_of_one, holds_of_splits, missing_denies, none_is_missing, one_is_missing}

@@ -1,4 +1,4 @@
-use Rattle.std.proofs.Common.{◌≡◌, ℕ, ◌+◌, ◌*◌, ◌<◌, ◌++◌, ◌∷◌, [], List, length, None}
+use Rattle.std.proofs.Common.{◌≡◌, ℕ, ◌+◌, ◌*◌, ◌<◌, ◌++◌, ◌∷◌, [], length, None}
 use Rattle.std.specs.Prelude.{Contains, Some, slice_get}
 use Rattle.star_model.specs.Meaning.{members_of}
 use Rattle.star_model.specs.declared.rules.Alternative.{Alternative}

@@ -1,6 +1,6 @@
 use Rattle.std.proofs.Common.{map}
 use Rattle.spelling.specs.Lexemes.{comma, joined_by}
-use Rattle.spelling.specs.Catalogues.{column_lexemes}
+use Rattle.catalogue.specs.Catalogues.{column_lexemes}
 use Rattle.spelling.specs.Writing.{puts}
 use Rattle.catalogue.proofs.Printed.{later_of, no_items, items_first, items_next, items_done}
 use Rattle.catalogue.proofs.print.print_column_list.Goals as goal

@@ -1,6 +1,6 @@
 use Rattle.std.proofs.Common.{map}
 use Rattle.spelling.specs.Lexemes.{comma, joined_by}
-use Rattle.spelling.specs.Catalogues.{column_lexemes}
+use Rattle.catalogue.specs.Catalogues.{column_lexemes}
 use Rattle.spelling.specs.Writing.{puts}
 use Rattle.catalogue.proofs.Printed.{ItemsLeft}
 use Rattle.catalogue.proofs.print.print_column_list.Given as goal

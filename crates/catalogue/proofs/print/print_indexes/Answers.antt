@@ -1,6 +1,6 @@
 use Rattle.std.proofs.Common.{map}
 use Rattle.star_model.specs.WellFormed.{WellFormedIndex}
-use Rattle.spelling.specs.Catalogues.{catalogue_lexemes, index_statement}
+use Rattle.catalogue.specs.Catalogues.{catalogue_lexemes, index_statement}
 use Rattle.spelling.specs.Writing.{lines}
 use Rattle.catalogue.proofs.Printed.{line_next, lines_done, each_at}
 use Rattle.catalogue.proofs.print.print_indexes.Goals as goal

@@ -1,5 +1,5 @@
 use Rattle.std.proofs.Common.{map}
-use Rattle.spelling.specs.Catalogues.{catalogue_lexemes, index_statement}
+use Rattle.catalogue.specs.Catalogues.{catalogue_lexemes, index_statement}
 use Rattle.spelling.specs.Writing.{lines}
 use Rattle.catalogue.proofs.Printed.{LinesLeft}
 use Rattle.catalogue.proofs.print.print_indexes.Given as goal

@@ -1,7 +1,7 @@
 use Rattle.std.proofs.Common.{◌∙◌, ℕ, List, ap, sym, map, get_or}
 use Rattle.std.proofs.lemmas.Grind.{get_or_default_zero}
 use Rattle.spelling.specs.Lexemes.{Lexeme, Word, comma, joined_by}
-use Rattle.spelling.specs.Catalogues.{column_names, name_at, name_lexemes}
+use Rattle.catalogue.specs.Catalogues.{column_names, name_at, name_lexemes}
 use Rattle.spelling.specs.Writing.{put, puts}
 use Rattle.catalogue.proofs.Printed.{later_of, no_items, items_first, items_next, items_done, names_are}
 use Rattle.catalogue.proofs.print.print_name_list.Goals as goal

@@ -1,6 +1,6 @@
 use Rattle.std.proofs.Common.{map}
-use Rattle.spelling.specs.Catalogues.{catalogue_lexemes, table_statement, index_statement}
-use Rattle.spelling.specs.Catalogues as statement
+use Rattle.catalogue.specs.Catalogues.{catalogue_lexemes}
+use Rattle.catalogue.specs.Catalogues as statement
 use Rattle.spelling.specs.Writing.{lines}
 use Rattle.catalogue.proofs.Printed.{LinesLeft}
 use Rattle.catalogue.proofs.print.print_sites.Given as goal

@@ -1,6 +1,6 @@
 use Rattle.std.proofs.Common.{map, length}
 use Rattle.star_model.specs.WellFormed.{WellFormedTable}
-use Rattle.spelling.specs.Catalogues.{catalogue_lexemes, table_statement}
+use Rattle.catalogue.specs.Catalogues.{catalogue_lexemes, table_statement}
 use Rattle.spelling.specs.Writing.{lines}
 use Rattle.catalogue.proofs.Printed.{line_next, lines_done, each_at}
 use Rattle.catalogue.proofs.print.print_tables.Goals as goal

@@ -1,5 +1,5 @@
 use Rattle.std.proofs.Common.{map}
-use Rattle.spelling.specs.Catalogues.{catalogue_lexemes, table_statement}
+use Rattle.catalogue.specs.Catalogues.{catalogue_lexemes, table_statement}
 use Rattle.spelling.specs.Writing.{lines}
 use Rattle.catalogue.proofs.Printed.{LinesLeft}
 use Rattle.catalogue.proofs.print.print_tables.Given as goal

@@ -1,6 +1,7 @@
 use Rattle.std.proofs.Common.{◌≡◌, map, take, length, Some}
 use Rattle.star_model.specs.declared.catalogue.ColumnDef.{ColumnDef}
-use Rattle.spelling.specs.Names.{place_of, all_of}
+use Rattle.star_model.specs.Names.{place_of}
+use Rattle.spelling.specs.Names.{all_of}
 use Rattle.catalogue.proofs.resolve.columns_named.Given as goal
 
 abbrev pub invariant-loop-name : goal.invariant-loop-name

@@ -1,8 +1,9 @@
 use Rattle.std.proofs.Common.{length, map, ◌≡◌, ◌+◌, ◌≤◌, ◌++◌}
 use Rattle.sb_text.specs.Statements.{parts_of_iter}
 use Rattle.spelling.specs.Cursors.{part_said, IsPartOf}
-use Rattle.spelling.specs.Lexemes.{Every, statements_in, ended}
-use Rattle.spelling.specs.Catalogues.{catalogue_lexemes, HasColumns}
+use Rattle.star_model.specs.Every.{Every}
+use Rattle.spelling.specs.Lexemes.{statements_in, ended}
+use Rattle.catalogue.specs.Catalogues.{catalogue_lexemes, HasColumns}
 use Rattle.catalogue.specs.Words.{said}
 use Rattle.catalogue.proofs.statements.read_statements.Given as goal
 

@@ -2,10 +2,10 @@ use Rattle.std.proofs.Common.{◌+◌, List, length, Option, Some, None}
 use Rattle.std.specs.Prelude.{Result, Ok, Err, IfOk, IfSome, IfNone}
 use Rattle.std.specs.declared.alloc.AllocError.{AllocError}
 use Rattle.star_model.specs.declared.formula.Formula.{Formula}
-use Rattle.spelling.specs.declared.words.FormulaWord.{FormulaWord}
-use Rattle.spelling.specs.FormulaGrammar.{Spells, Whole}
-use Rattle.spelling.specs.FormulaReading.{whole_at}
-use Rattle.spelling.proofs.Laws.{formula_reads}
+use Rattle.cost_formula.specs.declared.formula_word.FormulaWord.{FormulaWord}
+use Rattle.cost_formula.specs.FormulaGrammar.{Spells, Whole}
+use Rattle.cost_formula.specs.FormulaReading.{whole_at}
+use Rattle.cost_formula.proofs.Laws.{formula_reads}
 use Rattle.cost_formula.specs.Reading.{IsAllOf}
 use Rattle.cost_formula.proofs.read.read_words.Goals as goal
 

@@ -1,6 +1,6 @@
 use Rattle.std.proofs.Common.{◌≡◌, map, take}
 use Rattle.spelling.specs.Lexemes.{lexemes_of}
-use Rattle.spelling.specs.Formulas.{formula_word}
+use Rattle.cost_formula.specs.Formulas.{formula_word}
 use Rattle.cost_formula.proofs.words.words_of.Given as goal
 
 abbrev pub invariant-loop-token : goal.invariant-loop-token

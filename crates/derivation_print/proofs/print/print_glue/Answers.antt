@@ -1,6 +1,6 @@
 use Rattle.std.proofs.Common.{◌≡◌, ap, ◌∙◌, subst, OnOk}
 use Rattle.spelling.specs.Lexemes.{Word}
-use Rattle.spelling.specs.Derivations.{Glue, glue_word, statement_of}
+use Rattle.derivation_reading.specs.Derivations.{Glue, glue_word, statement_of}
 use Rattle.spelling.specs.Writing.{put, puts, ended}
 use Rattle.derivation_print.proofs.Runs.{item_written, all_written}
 use Rattle.derivation_print.proofs.print.print_glue.Goals as goal

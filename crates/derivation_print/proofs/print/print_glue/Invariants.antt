@@ -1,6 +1,6 @@
 use Rattle.std.proofs.Common.{◌≡◌, map, drop}
 use Rattle.spelling.specs.Lexemes.{Word}
-use Rattle.spelling.specs.Derivations.{Glue, glue_word, statement_of}
+use Rattle.derivation_reading.specs.Derivations.{Glue, glue_word, statement_of}
 use Rattle.spelling.specs.Writing.{puts}
 use Rattle.derivation_print.proofs.print.print_glue.Given as goal
 

@@ -1,6 +1,6 @@
 use Rattle.std.proofs.Common.{◌≡◌, map, drop}
 use Rattle.spelling.specs.Lexemes.{Number}
-use Rattle.spelling.specs.Derivations.{Reference, statement_of}
+use Rattle.derivation_reading.specs.Derivations.{Reference, statement_of}
 use Rattle.spelling.specs.Writing.{puts}
 use Rattle.derivation_print.proofs.print.print_reference.Given as goal
 

@@ -1,6 +1,6 @@
 use Rattle.std.proofs.Common.{◌≡◌, ◌∙◌, subst, OnOk}
 use Rattle.spelling.specs.Lexemes.{right_brace}
-use Rattle.spelling.specs.Derivations.{set_lexemes}
+use Rattle.derivation_reading.specs.Derivations.{set_lexemes}
 use Rattle.spelling.specs.Writing.{put, puts}
 use Rattle.derivation_print.proofs.Sets.{left_first, left_member, left_other, left_none}
 use Rattle.derivation_print.proofs.print.print_set.Goals as goal

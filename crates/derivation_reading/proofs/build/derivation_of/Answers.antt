@@ -1,6 +1,6 @@
 use Rattle.std.proofs.Common.{◌∙◌, List, [], ◌∷◌, map, ap, subst, arith}
 use Rattle.std.proofs.lemmas.List.{map-append}
-use Rattle.spelling.specs.Derivations.{Step}
+use Rattle.derivation_reading.specs.Derivations.{Step}
 use Rattle.derivation_reading.specs.Nodes.{said}
 use Rattle.derivation_reading.proofs.Piles.{Piled, pile_starts, pile_enough, pile_grows, pile_one, pile_all}
 use Rattle.derivation_reading.proofs.build.derivation_of.Goals as goal

@@ -1,6 +1,6 @@
 use Rattle.std.proofs.Common.{◌∙◌, [], ◌∷◌, ◌++◌, sym, ap, arith, ◌≡◌}
 use Rattle.star_model.specs.declared.derivations.Deriv.{Deriv}
-use Rattle.spelling.specs.Flavours.{inputs_of}
+use Rattle.star_model.specs.Kinds.{inputs_of}
 use Rattle.derivation_reading.proofs.PlaceLaws.{few_of}
 use Rattle.derivation_reading.proofs.Piles.{leaf_grows, unary_grows, binary_grows}
 use Rattle.derivation_reading.proofs.build.operator.Goals as goal

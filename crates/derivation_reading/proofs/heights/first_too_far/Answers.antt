@@ -1,6 +1,6 @@
 use Rattle.std.proofs.Common.{◌∙◌, ◌≡◌, ℕ, ◌+◌, ◌++◌, ◌∷◌, [], List, map, drop, replicate, reverse, sym, ap, subst, arith}
 use Rattle.std.proofs.lemmas.List.{drop_all}
-use Rattle.spelling.specs.Derivations.{Step}
+use Rattle.derivation_reading.specs.Derivations.{Step}
 use Rattle.derivation_reading.specs.Nodes.{said}
 use Rattle.derivation_reading.specs.Places.{inputs}
 use Rattle.derivation_reading.specs.OpenPlaces.{ancestors_of}

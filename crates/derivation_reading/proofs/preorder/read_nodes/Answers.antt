@@ -1,6 +1,6 @@
 use Rattle.std.proofs.Common.{◌∙◌, ◌+◌, List, [], ◌∷◌, map, sym, ap, subst}
 use Rattle.std.proofs.lemmas.List.{map-append}
-use Rattle.spelling.specs.Derivations.{Step}
+use Rattle.derivation_reading.specs.Derivations.{Step}
 use Rattle.sb_text.specs.Statements.{Part, part_of, parts_of_iter}
 use Rattle.derivation_reading.specs.Nodes.{said}
 use Rattle.derivation_reading.proofs.SoFar.{SoFar, starts, strange_form, strange_place, goes}

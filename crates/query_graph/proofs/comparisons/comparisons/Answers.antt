@@ -1,7 +1,7 @@
 use Rattle.std.proofs.Common.{codes}
 use Rattle.std.proofs.lemmas.Result.{err_from_is_err_and}
 use Rattle.spelling.specs.Lexemes.{Word}
-use Rattle.spelling.specs.Queries.{comparison_lexemes}
+use Rattle.query_graph.specs.Queries.{comparison_lexemes}
 use Rattle.spelling.specs.SeriesLoopCases.{ends, goes, falls}
 use Rattle.spelling.proofs.Laws.{the_word_reads}
 use Rattle.query_graph.specs.StatementReading.{comparisons_at}

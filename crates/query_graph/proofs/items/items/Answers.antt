@@ -1,6 +1,6 @@
 use Rattle.std.proofs.lemmas.Result.{err_from_is_err_and}
 use Rattle.spelling.specs.Lexemes.{comma}
-use Rattle.spelling.specs.Queries.{item_lexemes}
+use Rattle.query_graph.specs.Queries.{item_lexemes}
 use Rattle.spelling.specs.SeriesLoopCases.{ends, goes, falls}
 use Rattle.spelling.proofs.Laws.{the_symbol_reads}
 use Rattle.query_graph.specs.StatementReading.{items_at}

@@ -2,7 +2,7 @@ use Rattle.std.proofs.Common.{rules, tests, map, ap, ◌∙◌}
 use Rattle.std.proofs.lemmas.Iterator.{YieldsList-from_slice}
 use Rattle.std.proofs.lemmas.Iterator.Search.{position_from_yields_List}
 use Rattle.star_model.specs.Vectors.{same_numbers}
-use Rattle.spelling.specs.Names.{place_of}
+use Rattle.star_model.specs.Names.{place_of}
 use Rattle.query_graph.proofs.Places.{found-place}
 use Rattle.query_graph.proofs.lookup.site_place.Goals as goal
 

@@ -1,7 +1,7 @@
 use Rattle.std.proofs.Common.{◌+◌, take, ap, ◌∙◌}
 use Rattle.star_model.specs.Vectors.{same_numbers}
 use Rattle.star_model.specs.WellFormed.{differ}
-use Rattle.spelling.specs.Queries.{quantifier_name}
+use Rattle.query_graph.specs.Queries.{quantifier_name}
 use Rattle.query_graph.specs.Words.{said_item}
 use Rattle.query_graph.proofs.Repeats.{names_of, names_of-more, one_name_more, second, twice}
 use Rattle.query_graph.proofs.names.have_one_name.Goals as goal

@@ -1,5 +1,5 @@
 use Rattle.std.proofs.Common.{Some, sym, ap, ◌∙◌}
-use Rattle.spelling.specs.Queries.{column_of}
+use Rattle.query_graph.specs.Queries.{column_of}
 use Rattle.query_graph.specs.Words.{said_column}
 use Rattle.query_graph.proofs.Resolving.{collected_more, collected_none}
 use Rattle.query_graph.proofs.resolve.columns_of.Goals as goal

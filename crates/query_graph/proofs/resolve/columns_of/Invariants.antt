@@ -1,6 +1,6 @@
 use Rattle.std.proofs.Common.{◌≡◌, map, take, Some}
 use Rattle.spelling.specs.Names.{all_of}
-use Rattle.spelling.specs.Queries.{column_of}
+use Rattle.query_graph.specs.Queries.{column_of}
 use Rattle.query_graph.specs.Words.{said_column}
 use Rattle.query_graph.proofs.resolve.columns_of.Given as goal
 

@@ -1,5 +1,5 @@
 use Rattle.std.proofs.Common.{◌<◌, length, Some, true≢false, sym, ap, ◌∙◌, arith}
-use Rattle.spelling.specs.Queries.{column_of}
+use Rattle.query_graph.specs.Queries.{column_of}
 use Rattle.query_graph.specs.Words.{said_column}
 use Rattle.query_graph.proofs.Resolving.{collected_more, collected_none, collected_length, ok_says}
 use Rattle.query_graph.proofs.resolve.order_of.Goals as goal

@@ -1,5 +1,5 @@
 use Rattle.std.proofs.Common.{Some, sym, ap, ◌∙◌}
-use Rattle.spelling.specs.Queries.{predicate_of}
+use Rattle.query_graph.specs.Queries.{predicate_of}
 use Rattle.query_graph.specs.Words.{said_comparison}
 use Rattle.query_graph.proofs.Resolving.{collected_more, collected_none, great_at}
 use Rattle.query_graph.proofs.resolve.predicates_of.Goals as goal

@@ -1,6 +1,6 @@
 use Rattle.std.proofs.Common.{◌≡◌, map, take, Some}
 use Rattle.spelling.specs.Names.{all_of}
-use Rattle.spelling.specs.Queries.{predicate_of}
+use Rattle.query_graph.specs.Queries.{predicate_of}
 use Rattle.query_graph.specs.Words.{said_comparison}
 use Rattle.query_graph.proofs.resolve.predicates_of.Given as goal
 

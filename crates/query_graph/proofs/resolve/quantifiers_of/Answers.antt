@@ -1,5 +1,5 @@
 use Rattle.std.proofs.Common.{◌≡◌, length, arith, Some, sym, ap, ◌∙◌}
-use Rattle.spelling.specs.Queries.{quantifier_of}
+use Rattle.query_graph.specs.Queries.{quantifier_of}
 use Rattle.query_graph.specs.Words.{said_item}
 use Rattle.query_graph.proofs.Resolving.{collected_more, collected_none, collected_length}
 use Rattle.query_graph.proofs.resolve.quantifiers_of.Goals as goal

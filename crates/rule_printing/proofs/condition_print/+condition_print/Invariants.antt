@@ -1,5 +1,5 @@
 use Rattle.std.proofs.Common.{◌+◌, length}
-use Rattle.spelling.specs.Values.{condition_lexemes}
+use Rattle.rule_grammar.specs.Values.{condition_lexemes}
 use Rattle.rule_printing.proofs.condition_print.+condition_print.Given as goal
 
 -- The number of lexemes falls.

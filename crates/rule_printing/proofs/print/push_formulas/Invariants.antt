@@ -1,5 +1,5 @@
 use Rattle.std.proofs.Common.{◌≡◌, ◌++◌, map, take}
-use Rattle.spelling.specs.Rules.{OfFormula}
+use Rattle.rule_grammar.specs.Rules.{OfFormula}
 use Rattle.rule_printing.specs.Printing.{definition_of}
 use Rattle.rule_printing.proofs.print.push_formulas.Given as goal
 

@@ -1,6 +1,6 @@
 use Rattle.std.proofs.Common.{rules}
 use Rattle.std.proofs.lemmas.List.Sorted.{IsNonDecreasingBy-from_sort_by_key}
-use Rattle.spelling.specs.Rules.{number_of}
+use Rattle.rule_grammar.specs.Rules.{number_of}
 use Rattle.rule_printing.specs.Printing.{definition_of}
 use Rattle.rule_printing.proofs.SortedDefinitions.{sorted_statements}
 use Rattle.rule_printing.proofs.print.statements_in_order.Goals as goal

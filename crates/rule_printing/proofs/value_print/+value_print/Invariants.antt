@@ -1,5 +1,5 @@
 use Rattle.std.proofs.Common.{◌+◌, length}
-use Rattle.spelling.specs.Values.{value_lexemes}
+use Rattle.rule_grammar.specs.Values.{value_lexemes}
 use Rattle.rule_printing.proofs.value_print.+value_print.Given as goal
 
 -- The number of lexemes falls.

@@ -2,7 +2,7 @@ use Rattle.std.proofs.Common.{length, map, codes}
 use Rattle.star_model.specs.declared.rules.Param.{Param}
 use Rattle.spelling.specs.Reading.{the_symbol}
 use Rattle.spelling.specs.SeriesReadingCases.{Stands}
-use Rattle.spelling.specs.StarReading.{alternative_at}
+use Rattle.rule_grammar.specs.StarReading.{alternative_at}
 use Rattle.rule_reading.proofs.alternatives.alternatives.Given as goal
 
 abbrev pub invariant-loop-alternatives : goal.invariant-loop-alternatives

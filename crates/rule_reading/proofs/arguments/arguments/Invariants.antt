@@ -1,7 +1,7 @@
 use Rattle.std.proofs.Common.{length, codes}
 use Rattle.spelling.specs.Reading.{the_symbol}
 use Rattle.spelling.specs.SeriesReadingCases.{Stands}
-use Rattle.spelling.specs.ValueReading.{value_at}
+use Rattle.rule_grammar.specs.ValueReading.{value_at}
 use Rattle.rule_reading.proofs.arguments.arguments.Given as goal
 
 abbrev pub invariant-loop-arguments : goal.invariant-loop-arguments

@@ -2,7 +2,7 @@ use Rattle.std.proofs.Common.{List, map, ap, sym, ◌∙◌}
 use Rattle.std.proofs.lemmas.Result.{err_from_is_err_and}
 use Rattle.star_model.specs.declared.rules.ForAll.{ForAll}
 use Rattle.star_model.specs.declared.rules.Param.{Param}
-use Rattle.spelling.specs.StarReading.{with_ranges}
+use Rattle.rule_grammar.specs.StarReading.{with_ranges}
 use Rattle.rule_reading.proofs.ForAlls.{ends, stops, goes, falls}
 use Rattle.rule_reading.proofs.for_alls.ranges.Goals as goal
 

@@ -1,7 +1,7 @@
 use Rattle.std.proofs.Common.{◌∙◌, sym, ap, rules}
 use Rattle.std.proofs.lemmas.List.{take_rest}
 use Rattle.spelling.specs.Lexemes.{lexemes_of}
-use Rattle.spelling.specs.FormulaHeads.{formula_head_at}
+use Rattle.rule_grammar.specs.FormulaHeads.{formula_head_at}
 use Rattle.rule_reading.proofs.FormulaDefLaws.{no_head, head_and_formula}
 use Rattle.rule_reading.proofs.formula_defs.read_formula_def.Goals as goal
 

@@ -1,7 +1,7 @@
 use Rattle.std.proofs.Common.{length, codes}
 use Rattle.spelling.specs.Reading.{the_symbol}
 use Rattle.spelling.specs.SeriesReadingCases.{Stands}
-use Rattle.spelling.specs.StarReading.{parameter_at}
+use Rattle.rule_grammar.specs.StarReading.{parameter_at}
 use Rattle.rule_reading.proofs.stars.parameters.Given as goal
 
 abbrev pub invariant-loop-parameters : goal.invariant-loop-parameters

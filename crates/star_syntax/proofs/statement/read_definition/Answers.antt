@@ -2,7 +2,7 @@ use Rattle.std.proofs.Common.{◌∙◌, sym, rules}
 use Rattle.sb_text.specs.Statements.{part_of}
 use Rattle.spelling.specs.Lexemes.{lexemes_of}
 use Rattle.spelling.specs.Cursors.{part_said}
-use Rattle.spelling.proofs.Laws.{star_is_read}
+use Rattle.rule_grammar.proofs.Laws.{star_is_read}
 use Rattle.star_syntax.proofs.DefinitionLaws.{neither}
 use Rattle.star_syntax.proofs.statement.read_definition.Goals as goal
 

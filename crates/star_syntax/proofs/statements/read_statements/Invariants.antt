@@ -1,6 +1,6 @@
 use Rattle.std.proofs.Common.{List}
 use Rattle.sb_text.specs.Statements.{parts_of_iter}
-use Rattle.spelling.specs.RuleLimits.{RuleStatement}
+use Rattle.rule_grammar.specs.RuleLimits.{RuleStatement}
 use Rattle.star_syntax.proofs.ReadLaws.{IsReading}
 use Rattle.star_syntax.proofs.statements.read_statements.Given as goal
 

@@ -1,5 +1,5 @@
 use Rattle.std.proofs.lemmas.Result.{err_from_is_err_and}
-use Rattle.std.proofs.Common.{[], ◌∷◌}
+use Rattle.std.proofs.Common.{◌∷◌}
 use Rattle.stars_core.specs.declared.refusal.TextKind.TheVariants.{Catalogue, Query}
 use Rattle.stars_core.proofs.Says.{says_case}
 use Rattle.stars_core.proofs.Cases.{rules_stop, after_rules, catalogue_stops, after_catalogue, query_stops, after_query}

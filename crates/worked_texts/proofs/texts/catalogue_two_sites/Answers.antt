@@ -1,11 +1,11 @@
 -- Written by tools/worked_texts.
 use Rattle.std.proofs.Common.{refl, [], ◌∷◌, codes}
-use Rattle.spelling.specs.Catalogues.{Site, Table}
+use Rattle.catalogue.specs.Catalogues.{Site, Table}
 use Rattle.star_model.specs.declared.catalogue.ColType.TheVariants as type
 use Rattle.spelling.specs.Lexemes.{statements_in}
 use Rattle.sb_text.specs.Tokens.{lexed}
 use Rattle.sb_text.specs.Tokens.{lexed_after}
-use Rattle.spelling.specs.Catalogues.{catalogue_of}
+use Rattle.catalogue.specs.Catalogues.{catalogue_of}
 use Rattle.worked_texts.proofs.texts.catalogue_two_sites.Goals as goal
 
 pub returns : goal.returns

@@ -6,8 +6,8 @@ use Rattle.sb_text.specs.Tokens.{lexed_after}
 use Rattle.star_model.specs.Sets.{members}
 use Rattle.star_model.specs.Sets.{has}
 use Rattle.star_model.specs.Sets.{places}
-use Rattle.spelling.specs.Derivations.{steps}
-use Rattle.spelling.specs.Derivations.{HasInputs}
+use Rattle.derivation_reading.specs.Derivations.{steps}
+use Rattle.derivation_reading.specs.Derivations.{HasInputs}
 use Rattle.worked_texts.proofs.texts.derivation_of_all_forms.Goals as goal
 
 pub returns : goal.returns

@@ -2,7 +2,7 @@
 use Rattle.std.proofs.Common.{refl}
 use Rattle.spelling.specs.Layout.{layout}
 use Rattle.std.specs.Fmt.{digits}
-use Rattle.spelling.specs.Catalogues.{catalogue_of}
+use Rattle.catalogue.specs.Catalogues.{catalogue_of}
 use Rattle.worked_texts.proofs.texts.laid_out_catalogue.Goals as goal
 
 pub returns : goal.returns

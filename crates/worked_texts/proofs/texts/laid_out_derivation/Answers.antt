@@ -5,8 +5,8 @@ use Rattle.std.specs.Fmt.{digits}
 use Rattle.star_model.specs.Sets.{members}
 use Rattle.star_model.specs.Sets.{has}
 use Rattle.star_model.specs.Sets.{places}
-use Rattle.spelling.specs.Derivations.{steps}
-use Rattle.spelling.specs.Derivations.{HasInputs}
+use Rattle.derivation_reading.specs.Derivations.{steps}
+use Rattle.derivation_reading.specs.Derivations.{HasInputs}
 use Rattle.worked_texts.proofs.texts.laid_out_derivation.Goals as goal
 
 pub returns : goal.returns

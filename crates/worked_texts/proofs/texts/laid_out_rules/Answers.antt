@@ -2,16 +2,16 @@
 use Rattle.std.proofs.Common.{refl}
 use Rattle.spelling.specs.Layout.{layout}
 use Rattle.std.specs.Fmt.{digits}
-use Rattle.spelling.specs.FormulaCanonical.{words_of}
-use Rattle.spelling.specs.FormulaCanonical.{rank_of}
-use Rattle.spelling.specs.Formulas.{formula_lexeme}
-use Rattle.spelling.specs.Values.{value_lexemes}
-use Rattle.spelling.specs.Values.{IsValue}
-use Rattle.spelling.specs.Values.{condition_lexemes}
-use Rattle.spelling.specs.Values.{IsCondition}
-use Rattle.spelling.specs.Rules.{plan_lexemes}
-use Rattle.spelling.specs.Rules.{IsPlan}
-use Rattle.spelling.specs.Rules.{in_order}
+use Rattle.cost_formula.specs.FormulaCanonical.{words_of}
+use Rattle.cost_formula.specs.FormulaCanonical.{rank_of}
+use Rattle.cost_formula.specs.Formulas.{formula_lexeme}
+use Rattle.rule_grammar.specs.Values.{value_lexemes}
+use Rattle.star_model.specs.WellFormedRules.{IsValue}
+use Rattle.rule_grammar.specs.Values.{condition_lexemes}
+use Rattle.star_model.specs.WellFormedRules.{IsCondition}
+use Rattle.rule_grammar.specs.Rules.{plan_lexemes}
+use Rattle.star_model.specs.WellFormedRules.{IsPlan}
+use Rattle.rule_grammar.specs.Rules.{in_order}
 use Rattle.worked_texts.proofs.texts.laid_out_rules.Goals as goal
 
 pub returns : goal.returns

@@ -1,11 +1,11 @@
 -- Written by tools/worked_texts.
 use Rattle.std.proofs.Common.{refl, [], ◌∷◌, Some, codes}
-use Rattle.spelling.specs.Queries.{OfColumn, OfConstant, Whole, Quoted}
+use Rattle.query_graph.specs.Queries.{OfColumn, OfConstant, Whole, Quoted}
 use Rattle.star_model.specs.declared.query.Cmp.TheVariants as cmp
 use Rattle.spelling.specs.Lexemes.{statements_in}
 use Rattle.sb_text.specs.Tokens.{lexed}
 use Rattle.sb_text.specs.Tokens.{lexed_after}
-use Rattle.spelling.specs.Queries.{query_of}
+use Rattle.query_graph.specs.Queries.{query_of}
 use Rattle.worked_texts.proofs.texts.query_french_orders.Goals as goal
 
 pub returns : goal.returns

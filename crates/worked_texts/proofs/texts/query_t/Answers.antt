@@ -3,7 +3,7 @@ use Rattle.std.proofs.Common.{refl, [], ◌∷◌, None, codes}
 use Rattle.spelling.specs.Lexemes.{statements_in}
 use Rattle.sb_text.specs.Tokens.{lexed}
 use Rattle.sb_text.specs.Tokens.{lexed_after}
-use Rattle.spelling.specs.Queries.{query_of}
+use Rattle.query_graph.specs.Queries.{query_of}
 use Rattle.worked_texts.proofs.texts.query_t.Goals as goal
 
 pub returns : goal.returns

@@ -1,19 +1,19 @@
 -- Written by tools/worked_texts.
 use Rattle.std.proofs.Common.{refl}
-use Rattle.spelling.specs.Rules as rules
-use Rattle.spelling.proofs.Laws.{canonical_formula_def}
+use Rattle.rule_grammar.specs.Rules as rules
+use Rattle.rule_grammar.proofs.Laws.{canonical_formula_def}
 use Rattle.spelling.specs.Lexemes.{statements_in}
 use Rattle.sb_text.specs.Tokens.{lexed}
 use Rattle.sb_text.specs.Tokens.{lexed_after}
-use Rattle.spelling.specs.FormulaCanonical.{words_of}
-use Rattle.spelling.specs.FormulaCanonical.{rank_of}
-use Rattle.spelling.specs.Formulas.{formula_lexeme}
-use Rattle.spelling.specs.Values.{value_lexemes}
-use Rattle.spelling.specs.Values.{IsValue}
-use Rattle.spelling.specs.Values.{condition_lexemes}
-use Rattle.spelling.specs.Values.{IsCondition}
-use Rattle.spelling.specs.Rules.{plan_lexemes}
-use Rattle.spelling.specs.Rules.{IsPlan}
+use Rattle.cost_formula.specs.FormulaCanonical.{words_of}
+use Rattle.cost_formula.specs.FormulaCanonical.{rank_of}
+use Rattle.cost_formula.specs.Formulas.{formula_lexeme}
+use Rattle.rule_grammar.specs.Values.{value_lexemes}
+use Rattle.star_model.specs.WellFormedRules.{IsValue}
+use Rattle.rule_grammar.specs.Values.{condition_lexemes}
+use Rattle.star_model.specs.WellFormedRules.{IsCondition}
+use Rattle.rule_grammar.specs.Rules.{plan_lexemes}
+use Rattle.star_model.specs.WellFormedRules.{IsPlan}
 use Rattle.worked_texts.proofs.texts.rules_standard.Goals as goal
 
 pub returns : goal.returns

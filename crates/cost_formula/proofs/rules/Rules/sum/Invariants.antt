@@ -1,5 +1,5 @@
 use Rattle.std.proofs.Common.{◌≡◌, ◌-◌}
-use Rattle.spelling.specs.FormulaReading.{sum_at, term_at, whole_at, goes_on, sum_sign_of}
+use Rattle.cost_formula.specs.FormulaReading.{sum_at, term_at, whole_at, goes_on, sum_sign_of}
 use Rattle.cost_formula.proofs.rules.Rules.sum.Given as goal
 
 abbrev pub invariant-turns : goal.invariant-turns

@@ -1,5 +1,5 @@
 use Rattle.std.proofs.Common.{◌≡◌, ◌-◌}
-use Rattle.spelling.specs.FormulaReading.{term_at, factor_at, whole_at, goes_on, product_sign_of}
+use Rattle.cost_formula.specs.FormulaReading.{term_at, factor_at, whole_at, goes_on, product_sign_of}
 use Rattle.cost_formula.proofs.rules.Rules.term.Given as goal
 
 abbrev pub invariant-turns : goal.invariant-turns

@@ -2,7 +2,7 @@ use Rattle.std.proofs.Common.{rules, tests, ap, ◌∙◌}
 use Rattle.std.proofs.lemmas.Iterator.{YieldsList-from_slice, YieldsList-from_map_by}
 use Rattle.std.proofs.lemmas.Iterator.Consumers.{YieldsList-from_chain, YieldsList-at}
 use Rattle.std.proofs.lemmas.Iterator.Search.{position_from_yields_List}
-use Rattle.spelling.specs.Names.{place_of}
+use Rattle.star_model.specs.Names.{place_of}
 use Rattle.star_model.specs.Vectors.{same_numbers}
 use Rattle.rule_reading.proofs.Places.{found-place}
 use Rattle.rule_reading.proofs.scope.Scope.position.Goals as goal

@@ -1,5 +1,5 @@
 use Rattle.std.proofs.Common.{length}
-use Rattle.spelling.specs.ValueReading.{value_at, value_by}
+use Rattle.rule_grammar.specs.ValueReading.{value_at, value_by}
 use Rattle.rule_reading.proofs.Requirements.{Goes}
 use Rattle.rule_reading.proofs.value_rules.ValueRules.value.Given as goal
 

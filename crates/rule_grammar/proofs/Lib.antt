@@ -1,0 +1,19 @@
+mod Bracketed
+mod ConditionLaws
+mod FormulaHeadLaws
+mod FreeNames
+pub mod Laws
+mod PlanBrackets
+mod PlanRead
+mod PlanSpelled
+mod RangeLaws
+mod RuleHeads
+mod RuleLaws
+mod RuleWordLaws
+mod RuleWriting
+mod SmallestTexts
+mod StarLaws
+mod StarRead
+mod StarSpelled
+mod ValueReading
+mod ValueSpelled

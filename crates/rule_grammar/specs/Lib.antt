@@ -1,0 +1,10 @@
+pub mod ConditionReading
+pub mod FormulaHeads
+pub mod PlanReading
+pub mod RuleLimits
+pub mod RuleWords
+pub mod Rules
+pub mod StarReading
+pub mod Tiny
+pub mod ValueReading
+pub mod Values

@@ -1,5 +1,0 @@
-use Rattle.spelling.proofs.Laws.{written_catalogue, written_catalogue_spells}
-use Rattle.spelling.proofs.theorems.catalogues_are_written.Goals as goal
-
-pub returns : goal.returns
-returns c = record { means = written_catalogue; spelled = written_catalogue_spells }

@@ -1,5 +1,0 @@
-use Rattle.spelling.proofs.Laws.{formula_head_reads}
-use Rattle.spelling.proofs.theorems.formula_heads_are_read.Goals as goal
-
-pub returns : goal.returns
-returns c = formula_head_reads

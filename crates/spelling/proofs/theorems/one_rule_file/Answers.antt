@@ -1,5 +1,0 @@
-use Rattle.spelling.proofs.Laws.{one_rule_file, one_star, one_formula_def}
-use Rattle.spelling.proofs.theorems.one_rule_file.Goals as goal
-
-pub returns : goal.returns
-returns c = record { text = one_rule_file; star = one_star; formula = one_formula_def }

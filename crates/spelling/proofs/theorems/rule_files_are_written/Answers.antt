@@ -1,5 +1,0 @@
-use Rattle.spelling.proofs.Laws.{written_rules_spell}
-use Rattle.spelling.proofs.theorems.rule_files_are_written.Goals as goal
-
-pub returns : goal.returns
-returns c = written_rules_spell

@@ -1,5 +1,0 @@
-use Rattle.spelling.proofs.Laws.{star_is_read}
-use Rattle.spelling.proofs.theorems.stars_are_read.Goals as goal
-
-pub returns : goal.returns
-returns c = star_is_read

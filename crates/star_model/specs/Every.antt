@@ -1,0 +1,12 @@
+-- Properties of each item of a list.
+use Rattle.std.specs.Prelude.{List, [], ◌∷◌}
+
+-- each item has the property
+abbrev pub Every : {A : Type 0} → (A → Type 0) → List A → Type 0
+Every P [] = Unit {0}
+Every P (x ∷ xs) = P x × Every P xs
+
+-- there is an item
+abbrev pub HasItem : {A : Type 0} → List A → Type 0
+HasItem [] = ⊥
+HasItem (x ∷ xs) = Unit {0}
