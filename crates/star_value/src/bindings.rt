@@ -6,7 +6,7 @@ ghost use Rattle.star_model.specs.WellFormed.{WellFormedQuery};
 
 use crate::conditions::holds;
 use crate::env::Env;
-use crate::values::value;
+use crate::meaning::value;
 use star_model::query::Query;
 use star_model::rules::{Condition, ValueExpr};
 
