@@ -10,7 +10,7 @@ use Rattle.spelling.specs.Limits.{IsFirstBeyond}
 use Rattle.spelling.specs.LimitsCases.{one_limit}
 use Rattle.catalogue.specs.Catalogues.{CatalogueStatement, catalogue_lexemes, HasColumns}
 use Rattle.spelling.proofs.Laws.{one_list}
-use Rattle.catalogue.proofs.Laws.{one_catalogue_statement}
+use Rattle.catalogue.proofs.CatalogueLaws.{one_catalogue_statement}
 use Rattle.catalogue.specs.declared.fault.CatFault.{CatFault}
 use Rattle.catalogue.specs.declared.fault.CatFault.TheVariants.{Lexical, TooDeep, Syntax, Unknown, Twice, Limit, Memory}
 use Rattle.catalogue.specs.Defined.{NamesUnknown, DefinesTwice}

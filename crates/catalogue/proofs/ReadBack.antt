@@ -9,7 +9,8 @@ use Rattle.spelling.specs.Lexemes.{Lexeme, Word, Number, comma, right_bracket, j
 use Rattle.star_model.specs.Every.{Every}
 use Rattle.spelling.specs.Firsts.{NoneFrom}
 use Rattle.catalogue.specs.Catalogues.{CatalogueStatement, Site, Table, Index, column_lexemes, name_lexemes, catalogue_lexemes, canonical, SpellsCatalogue}
-use Rattle.catalogue.proofs.Laws.{one_catalogue, canonical_catalogue}
+use Rattle.catalogue.proofs.CatalogueLaws.{one_catalogue}
+use Rattle.catalogue.proofs.CatalogueCanonical.{canonical_catalogue}
 use Rattle.catalogue.specs.declared.fault.CatFault.{CatFault}
 use Rattle.catalogue.specs.declared.fault.CatFault.TheVariants.{Lexical, TooDeep, Syntax, Unknown, Twice, Limit, Memory}
 use Rattle.catalogue.specs.Beyond.{IsBeyond}

@@ -13,7 +13,7 @@ use Rattle.star_model.specs.Every.{Every}
 use Rattle.spelling.specs.Firsts.{FirstAt, NoneFrom, NoneHas}
 use Rattle.spelling.specs.FirstsCases.{one_first, none_first}
 use Rattle.derivation_reading.specs.Derivations.{Step, IsStep, steps, HasInputs, BeginsGlue, InOrder, SpellsDerivation}
-use Rattle.derivation_reading.proofs.Laws.{one_derivation}
+use Rattle.derivation_reading.proofs.DerivationLaws.{one_derivation}
 use Rattle.derivation_reading.specs.declared.fault.DerivFault.{DerivFault}
 use Rattle.derivation_reading.specs.declared.fault.DerivFault.TheVariants.{Lexical, TooDeep, Syntax, TooTall, Memory}
 use Rattle.derivation_reading.specs.TextFaults.{of_text}

@@ -17,7 +17,8 @@ use Rattle.spelling.specs.Layout.{commented}
 use Rattle.spelling.specs.Lexemes.{Lexeme, Word, Number, MaybeEnded, ended, statements_in, comma, right_brace, joined_by}
 use Rattle.star_model.specs.Every.{Every}
 use Rattle.derivation_reading.specs.Derivations.{Step, Glue, Goal, Reference, Operator, glue_word, set_lexemes, split_lexemes, statement_of, statements_of, IsStep, NamesWord, steps, canonical, IsWritable, SpellsDerivation}
-use Rattle.derivation_reading.proofs.Laws.{one_derivation, written_derivation, commented_derivation}
+use Rattle.derivation_reading.proofs.DerivationLaws.{one_derivation}
+use Rattle.derivation_reading.proofs.DerivationWriting.{written_derivation, commented_derivation}
 use Rattle.derivation_reading.specs.declared.fault.DerivFault.{DerivFault}
 use Rattle.derivation_reading.specs.declared.fault.DerivFault.TheVariants.{Lexical, TooDeep, Syntax, TooTall, Memory}
 use Rattle.derivation_reading.specs.Ancestors.{IsLow}

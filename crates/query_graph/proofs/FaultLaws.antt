@@ -18,7 +18,7 @@ use Rattle.spelling.specs.Limits.{IsFirstBeyond}
 use Rattle.spelling.specs.Syntax.{IsUnderstood}
 use Rattle.query_graph.specs.Queries.{QueryStatement, query_lexemes, query_of, SpellsQueryStatement, SpellsQuery}
 use Rattle.spelling.proofs.Laws.{one_list}
-use Rattle.query_graph.proofs.Laws.{one_query_statement, one_query}
+use Rattle.query_graph.proofs.QueryLaws.{one_query_statement, one_query}
 use Rattle.query_graph.specs.declared.fault.QueryFault.{QueryFault}
 use Rattle.query_graph.specs.declared.fault.QueryFault.TheVariants as fault
 use Rattle.query_graph.specs.Syntax.{IsStrangeQueryAt}
