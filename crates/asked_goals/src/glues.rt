@@ -6,10 +6,10 @@ ghost use Rattle.star_model.specs.declared.rules.PlanExpr.TheVariants as made;
 ghost use Rattle.exchange.specs.Asking.{AsksFrom};
 ghost use Rattle.search_places.specs.Memos.{FirstMissing};
 
-use search_places::{Search, glued_goal};
+use search_places::Search;
 use star_model::plans::Goal;
 use star_model::rules::ValueExpr;
-use star_value::{Env, preds, tables_of};
+use star_value::{Env, glued_goal, preds, tables_of};
 
 /// The goal of the Glue, if the memo doesn't hold it.
 pub fn missing_at_glue(

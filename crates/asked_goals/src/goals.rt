@@ -9,11 +9,12 @@ ghost use Rattle.search_places.specs.Memos.{FirstMissing, HoldsAsked};
 ghost use Rattle.search_places.specs.Searching.{IsPosed};
 
 use crate::places::missing_in_call;
-use search_places::{Search, root_name, root_values};
+use search_places::{Search, root_name};
 use star_check::CheckedRules;
 use star_model::plans::Goal;
 use star_model::query::Query;
 use star_model::sets::QuantSet;
+use star_value::root_values;
 use table_set_memo::Memo;
 
 /// The first goal that the split of this goal asks for, and that the memo doesn't hold. It takes no memory.

@@ -9,11 +9,11 @@ ghost use Rattle.search_places.specs.Searching.{IsPosed, LeadsTo};
 ghost use Rattle.asked_goals.specs.Alternatives.{AsksOver, IsInside};
 
 use crate::glues::missing_at_glue;
-use search_places::{Search, meets, values, with_value};
+use search_places::{Search, with_value};
 use star_model::lists::Name;
 use star_model::plans::Goal;
 use star_model::rules::{Alternative, ForAll, PlanExpr};
-use star_value::{Env, range};
+use star_value::{Env, meets, range, values};
 
 /// The first goal that the expression asks for under these bindings, and that isn't held.
 #[cycle(asking)]

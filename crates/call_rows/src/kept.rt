@@ -3,13 +3,13 @@ ghost use Rattle.star_model.specs.WellFormed.{WellFormedQuery};
 
 use crate::goals::own_goal;
 use crate::sets::{lines_of, own_plans};
-use search_places::{root_name, root_values};
+use search_places::root_name;
 use shared_sets::RefTable;
 use star_check::CheckedRules;
 use star_model::lists::Name;
 use star_model::query::Query;
 use star_model::sets::QuantSet;
-use star_value::Env;
+use star_value::{Env, root_values};
 use std::alloc::{AllocError, Global};
 
 // The costs of what the table has for the call, a line for each.

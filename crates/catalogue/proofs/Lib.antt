@@ -6,7 +6,6 @@ mod FaultOrder
 mod PlaceLaws
 mod Adding
 mod Clear
-mod Shallow
 mod ReadBack
 mod NameLists
 mod FirstLaws

@@ -4,9 +4,9 @@ use Rattle.spelling.specs.Lexemes.{Lexeme}
 use Rattle.spelling.specs.Reading.{Reader}
 use Rattle.spelling.specs.SeriesReading.{series}
 use Rattle.spelling.specs.SeriesReadingCases.{Stands, stopped}
-use Rattle.catalogue.specs.declared.statement.Unread.{Unread}
-use Rattle.catalogue.specs.declared.statement.Unread.TheVariants.{Strange, Memory}
-use Rattle.catalogue.specs.Reading.{Answers}
+use Rattle.spelling.specs.declared.unread.Unread.{Unread}
+use Rattle.spelling.specs.declared.unread.Unread.TheVariants.{Strange, Memory}
+use Rattle.spelling.specs.Answers.{Answers}
 
 pub stops : {A : Type 0} (item : Reader A) (separator : Reader (Unit {0})) (all : List Lexeme) (done : List A) (left : List Lexeme) (why : Unread) (rest last : List Lexeme)
     → Stands item separator all done left → Answers (item left) (Err why) rest → Answers (series item separator all) (Err why) last

@@ -14,7 +14,8 @@ use Rattle.catalogue.specs.declared.fault.CatFault.{CatFault}
 use Rattle.catalogue.specs.declared.fault.CatFault.TheVariants.{Lexical, TooDeep, Syntax, Unknown, Twice, Limit, Memory}
 use Rattle.catalogue.specs.Beyond.{IsBeyond}
 use Rattle.catalogue.specs.Faults.{IsAccepted, ReadsCatalogue}
-use Rattle.catalogue.proofs.Shallow.{count_opens, IsShallow, no_deep_fault}
+use Rattle.spelling.specs.Shallow.{count_opens, IsShallow}
+use Rattle.spelling.proofs.Laws.{no_deep_fault}
 use Rattle.catalogue.proofs.Clear.{clear_statements}
 use Rattle.catalogue.proofs.FaultOrder.{accepted}
 

@@ -18,10 +18,11 @@ use Rattle.catalogue.specs.declared.words.ColumnWords.{ColumnWords}
 use Rattle.catalogue.specs.declared.words.StatementWords.{StatementWords}
 use Rattle.catalogue.specs.declared.words.StatementWords.TheVariants.{Site, Table, Index}
 use Rattle.catalogue.specs.Words.{column_of, said}
-use Rattle.catalogue.specs.declared.statement.Unread.{Unread}
-use Rattle.catalogue.specs.declared.statement.Unread.TheVariants.{Strange, Memory}
+use Rattle.spelling.specs.declared.unread.Unread.{Unread}
+use Rattle.spelling.specs.declared.unread.Unread.TheVariants.{Strange, Memory}
 use Rattle.catalogue.specs.Statements.{StatementRead}
-use Rattle.catalogue.specs.Reading.{Answers, items_at, site_at, type_named, column_at, table_at, index_at, statement_at}
+use Rattle.catalogue.specs.Reading.{items_at, site_at, type_named, column_at, table_at, index_at, statement_at}
+use Rattle.spelling.specs.Answers.{Answers}
 use Rattle.spelling.specs.SeriesReadingCases.{IsRead, series_read}
 use Rattle.spelling.proofs.Laws.{the_symbol_reads}
 use Rattle.sb_text.specs.Statements.{Part}

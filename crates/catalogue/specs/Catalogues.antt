@@ -12,7 +12,7 @@ use Rattle.spelling.specs.Lexemes.{Lexeme, Word, Number, Text, IsStatements, com
 use Rattle.star_model.specs.Every.{Every, HasItem}
 use Rattle.spelling.specs.Layout.{layout}
 use Rattle.star_model.specs.Names.{place_of}
-use Rattle.spelling.specs.Names.{all_of}
+use Rattle.spelling.specs.Names.{all_of, ◌>>=◌}
 
 -- ---- the grammar
 

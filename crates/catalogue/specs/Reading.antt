@@ -1,9 +1,8 @@
 -- How the statements of a catalogue are read, from the front of a list of lexemes.
-use Rattle.std.specs.Prelude.{◌≡◌, ℕ, List, Option, Some, None, codes, if◌then◌else◌, Result, Ok, Err}
+use Rattle.std.specs.Prelude.{ℕ, List, Option, Some, None, codes, if◌then◌else◌}
 use Rattle.star_model.specs.declared.catalogue.ColType.{ColType}
 use Rattle.star_model.specs.declared.catalogue.ColType.TheVariants as type
 use Rattle.star_model.specs.Vectors.{same_numbers}
-use Rattle.spelling.specs.Lexemes.{Lexeme}
 use Rattle.spelling.specs.Reading.{Reader, ◌>>=◌, ◌>>◌, pure, given, the_word, the_symbol, a_word, a_number, a_text}
 use Rattle.spelling.specs.SeriesReading.{series}
 use Rattle.catalogue.specs.declared.words.SiteWords.{SiteWords}
@@ -12,14 +11,6 @@ use Rattle.catalogue.specs.declared.words.TableWords.{TableWords}
 use Rattle.catalogue.specs.declared.words.IndexWords.{IndexWords}
 use Rattle.catalogue.specs.declared.words.StatementWords.{StatementWords}
 use Rattle.catalogue.specs.declared.words.StatementWords.TheVariants.{Site, Table, Index}
-use Rattle.catalogue.specs.declared.statement.Unread.{Unread}
-use Rattle.catalogue.specs.declared.statement.Unread.TheVariants.{Strange, Memory}
-
--- what a function that reads answers: what was read, where it is there. Want of memory may come at any time.
-abbrev pub Answers : {A : Type 0} → Option (A × List Lexeme) → Result A Unread → List Lexeme → Type 0
-Answers read (Ok x) rest = read ≡ Some (x, rest)
-Answers read (Err Strange) rest = read ≡ None
-Answers read (Err Memory) rest = Unit {0}
 
 -- one or more items, with a comma between two
 unfoldable pub items_at : {A : Type 0} → Reader A → Reader (List A)

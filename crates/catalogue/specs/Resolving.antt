@@ -5,7 +5,7 @@ use Rattle.star_model.specs.declared.catalogue.TableDef.{TableDef}
 use Rattle.star_model.specs.declared.catalogue.IndexDef.{IndexDef}
 use Rattle.star_model.specs.Every.{Every}
 use Rattle.star_model.specs.Names.{place_of}
-use Rattle.spelling.specs.Names.{all_of}
+use Rattle.spelling.specs.Names.{all_of, ◌>>=◌}
 use Rattle.catalogue.specs.Catalogues.{CatalogueStatement, Site, Table, Index, IndexPart, column_names, with_statement}
 use Rattle.catalogue.specs.LimitTests.{has_great_number}
 

@@ -4,8 +4,8 @@ use Rattle.spelling.specs.Lexemes.{MaybeEnded, ended}
 use Rattle.spelling.specs.Syntax.{IsUnderstood, IsStrangeAt}
 use Rattle.catalogue.specs.Catalogues.{HasColumns, catalogue_lexemes, SpellsCatalogueStatement}
 use Rattle.catalogue.specs.declared.words.StatementWords.{StatementWords}
-use Rattle.catalogue.specs.declared.statement.Unread.{Unread}
-use Rattle.catalogue.specs.declared.statement.Unread.TheVariants.{Strange, Memory}
+use Rattle.spelling.specs.declared.unread.Unread.{Unread}
+use Rattle.spelling.specs.declared.unread.Unread.TheVariants.{Strange, Memory}
 use Rattle.catalogue.specs.declared.fault.CatFault.{CatFault}
 use Rattle.catalogue.specs.declared.fault.CatFault.TheVariants as fault
 use Rattle.catalogue.specs.Words.{said}

@@ -1,7 +1,7 @@
 // Reading a statement.
 ghost use Rattle.std.specs.Prelude.{◌≡◌};
-ghost use Rattle.catalogue.specs.declared.statement.Unread.TheVariants.{Memory};
-ghost use Rattle.catalogue.specs.Reading.{Answers, items_at, site_at, type_named, column_at, table_at, index_at, statement_at};
+ghost use Rattle.catalogue.specs.Reading.{items_at, site_at, type_named, column_at, table_at, index_at, statement_at};
+ghost use Rattle.spelling.specs.Answers.{Answers};
 ghost use Rattle.catalogue.specs.Statements.{StatementRead};
 ghost use Rattle.sb_text.specs.Statements.{part_of};
 ghost use Rattle.spelling.specs.Cursors.{AreTokensOf, part_said};
@@ -9,26 +9,10 @@ ghost use Rattle.spelling.specs.Reading.{a_word};
 
 use crate::words::{ColumnWords, IndexWords, SiteWords, StatementWords, TableWords};
 use sb_text::Statement;
-use spelling::{Cursor, text_bytes};
+use spelling::{Cursor, Unread, text_bytes};
 use star_model::catalogue::ColType;
 use star_model::lists::{Bytes, List, Name};
-use std::alloc::{AllocError, Global};
-
-/// Why a statement isn't read.
-#[derive(Clone, Copy, Debug)]
-pub enum Unread {
-    /// It isn't spelled by the grammar.
-    Strange,
-    Memory,
-}
-
-impl From<AllocError> for Unread {
-    ghost from_gives = { λ _ e. e ≡ Memory };
-
-    fn from(_: AllocError) -> Self {
-        Unread::Memory
-    }
-}
+use std::alloc::Global;
 
 #[tactic(auto, unfolding(crate::specs::Reading::site_at))]
 fn site(alloc: Global, cursor: &mut Cursor<'_>) -> Result<SiteWords, Unread>

@@ -4,9 +4,10 @@ ghost use Rattle.sb_text.specs.Refusal.{AreTokens};
 ghost use Rattle.catalogue.specs.Statements.{StatementsRead};
 
 use crate::CatFault;
-use crate::statement::{Unread, read_statement};
+use crate::statement::read_statement;
 use crate::words::StatementWords;
 use sb_text::{Token, statements};
+use spelling::Unread;
 use star_model::lists::List;
 use std::alloc::Global;
 

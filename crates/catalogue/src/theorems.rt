@@ -13,7 +13,6 @@ ghost use Rattle.catalogue.specs.Beyond.{IsBeyond};
 ghost use Rattle.catalogue.specs.Faults.{SaysStatements, HasFault, IsFirstFault, IsAccepted, ReadsCatalogue};
 ghost use Rattle.spelling.specs.Lexemes.{Lexeme, IsStatements};
 ghost use Rattle.star_model.specs.Every.{HasItem};
-ghost use Rattle.catalogue.specs.Catalogues as catalogue;
 ghost use Rattle.star_model.specs.declared.catalogue.SiteDef.{SiteDef};
 
 /// One text has at most one first fault.
@@ -58,7 +57,7 @@ pub fn catalogues_are_written()
 
 /// The canonical text of a well-formed catalogue spells it.
 pub fn canonical_catalogues_spell()
-    ensures { (c : Catalogue) → WellFormedCatalogue c → SpellsCatalogue (catalogue.canonical c) c }
+    ensures { (c : Catalogue) → WellFormedCatalogue c → SpellsCatalogue (canonical c) c }
 {}
 
 /// One site, and one table at it, are a catalogue.

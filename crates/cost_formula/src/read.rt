@@ -10,10 +10,10 @@ ghost use Rattle.star_model.specs.declared.formula.Formula.{Formula};
 ghost use Rattle.cost_formula.specs.Reading.{Reads, IsAllOf};
 
 use crate::cursor::{Stop, WordCursor};
+use crate::formula_word::FormulaWord;
 use crate::rules::Rules;
 use crate::words::words_of;
 use sb_text::Token;
-use crate::formula_word::FormulaWord;
 use star_model::formula::Formula;
 use std::alloc::{AllocError, Global};
 

@@ -5,8 +5,8 @@ ghost use Rattle.cost_formula.specs.Nests.{Nests};
 ghost use Rattle.cost_formula.specs.Reading.{Reads, with_operand};
 
 use crate::cursor::{Stop, WordCursor};
-use crate::nodes::{chosen, greater, join, lesser};
 use crate::formula_word::{FormulaWord, Sign};
+use crate::nodes::{chosen, greater, join, lesser};
 use star_model::formula::{Formula, Test};
 use std::alloc::{AllocError, Global};
 

@@ -7,8 +7,8 @@ ghost use Rattle.spelling.specs.Lexemes.{lexeme_of, lexemes_of};
 ghost use Rattle.spelling.specs.Names.{found_in};
 ghost use Rattle.cost_formula.specs.Formulas.{formula_word, formula_symbols, formula_keywords, variable_rows, all_variables};
 
-use sb_text::{Token, TokenKind};
 use crate::formula_word::FormulaWord;
+use sb_text::{Token, TokenKind};
 use spelling::{Cursor, found_in};
 use star_model::formula::{Test, Var};
 use std::alloc::{AllocError, Global};

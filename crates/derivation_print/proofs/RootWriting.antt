@@ -8,7 +8,8 @@ use Rattle.std.specs.List.{list_any, find, range_with_len, AllPass}
 use Rattle.std.specs.Option.{option_map_or}
 use Rattle.std.specs.Cmp.Lexicographic.{same_text}
 use Rattle.sb_text.specs.Forms.{IsWord}
-use Rattle.star_model.proofs.Laws.{set_of-lt}
+use Rattle.star_model.proofs.Laws.{set_of-lt, kept_below, members_below}
+use Rattle.derivation_reading.proofs.Laws.{commented_derivation}
 use Rattle.star_model.specs.Sets.{members, union, meet, minus}
 use Rattle.star_model.specs.Costs.{row_of, same_flavour, costs_of}
 use Rattle.star_model.specs.Vectors.{same_numbers}
@@ -49,7 +50,6 @@ use Rattle.star_model.specs.Kinds.{inputs_of}
 use Rattle.derivation_reading.specs.Derivations.{Step, Goal, Reference, IsMask, IsCounted, AreMasks, IsStep, NamesWord, steps, InOrder, HasInputs, IsWritable, canonical, SpellsDerivation}
 use Rattle.sb_text.specs.Front.{in_comment}
 use Rattle.spelling.specs.Layout.{commented}
-use Rattle.derivation_reading.proofs.Laws.{commented_derivation, kept_below, members_below}
 use Rattle.rule_grammar.specs.Rules.{SpellsRules, KeepsCounts}
 use Rattle.spelling.specs.FormedLexemes.{every_both, given_word}
 use Rattle.derivation_print.proofs.RuleBodies.{BodyOk, AlternativeOk, StarOk, spelled_stars}

@@ -8,8 +8,8 @@ ghost use Rattle.spelling.specs.Writing.{puts, ended, lines};
 
 use crate::members::Members;
 use spelling::Writer;
-use star_model::flavours::flavour_word;
 use star_model::derivations::Deriv;
+use star_model::flavours::flavour_word;
 use star_model::plans::{GlueOp, Goal};
 use star_model::rules::Flavour;
 use star_model::sets::QuantSet;

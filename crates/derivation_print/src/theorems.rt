@@ -5,8 +5,7 @@ ghost use Rattle.std.specs.List.{AllPass};
 ghost use Rattle.sb_text.specs.Front.{in_comment};
 ghost use Rattle.star_model.specs.Every.{Every};
 ghost use Rattle.spelling.specs.Layout.{line, commented};
-ghost use Rattle.derivation_reading.specs.Derivations as derivation;
-ghost use Rattle.derivation_reading.specs.Derivations.{steps, NamesWord, IsWritable, SpellsDerivation};
+ghost use Rattle.derivation_reading.specs.Derivations.{canonical, steps, NamesWord, IsWritable, SpellsDerivation};
 ghost use Rattle.rule_grammar.specs.Rules.{SpellsRules, KeepsCounts};
 ghost use Rattle.star_model.specs.WellFormed.{WellFormedQuery};
 ghost use Rattle.star_model.specs.Derivations.{IsRoot};
@@ -20,5 +19,5 @@ ghost use Rattle.star_model.specs.declared.rules.RuleFile.{RuleFile};
 pub fn root_derivations_are_written()
     ensures writable { (q : Query) (rules : RuleFile) → WellFormedQuery q → (text : List ℕ) → SpellsRules text rules → KeepsCounts rules → (tree : Deriv) (v : Props) → IsRoot q rules tree v → IsWritable tree × Every NamesWord (steps tree) }
     ensures spelled { (q : Query) (rules : RuleFile) → WellFormedQuery q → (text : List ℕ) → SpellsRules text rules → KeepsCounts rules → (tree : Deriv) (v : Props) → IsRoot q rules tree v
-        → (line : List ℕ) → AllPass in_comment line → SpellsDerivation (commented line (derivation.canonical tree)) tree }
+        → (line : List ℕ) → AllPass in_comment line → SpellsDerivation (commented line (canonical tree)) tree }
 {}

@@ -10,7 +10,6 @@ mod Piles
 mod TooFar
 mod Forests
 mod FaultLaws
-mod Shallow
 mod ReadBack
 mod Verdicts
 pub mod Laws

@@ -23,7 +23,8 @@ use Rattle.derivation_reading.specs.declared.fault.DerivFault.TheVariants.{Lexic
 use Rattle.derivation_reading.specs.Ancestors.{IsLow}
 use Rattle.derivation_reading.specs.Faults.{IsAccepted, ReadsDerivation}
 use Rattle.derivation_reading.proofs.MemberLaws.{rising_few, members-rise}
-use Rattle.derivation_reading.proofs.Shallow.{count_opens, IsShallow, no_deep_fault}
+use Rattle.spelling.specs.Shallow.{count_opens, IsShallow}
+use Rattle.spelling.proofs.Laws.{no_deep_fault}
 use Rattle.derivation_reading.proofs.FaultLaws.{spelled_clear}
 
 -- ---- the statements of a derivation are short

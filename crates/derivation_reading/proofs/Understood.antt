@@ -3,8 +3,8 @@ use Rattle.std.proofs.Common.{◌≡◌, true, false, List, [], Some, Err, sym, 
 use Rattle.std.proofs.lemmas.Option.{some_pair_parts}
 use Rattle.spelling.specs.Lexemes.{Lexeme, MaybeEnded}
 use Rattle.derivation_reading.specs.Derivations.{Step}
-use Rattle.derivation_reading.specs.declared.unread.Unread.{Unread}
-use Rattle.derivation_reading.specs.declared.unread.Unread.TheVariants.{Strange, Memory}
+use Rattle.spelling.specs.declared.unread.Unread.{Unread}
+use Rattle.spelling.specs.declared.unread.Unread.TheVariants.{Strange, Memory}
 use Rattle.derivation_reading.specs.Nodes.{SaysNode}
 use Rattle.derivation_reading.specs.NodeReading.{Answers, NodeRead}
 use Rattle.derivation_reading.specs.StatementReading.{node_at}

@@ -4,8 +4,8 @@ use Rattle.spelling.specs.Lexemes.{Lexeme, MaybeEnded}
 use Rattle.derivation_reading.specs.Derivations.{Step}
 use Rattle.derivation_reading.specs.Nodes.{said, SaysNode}
 use Rattle.derivation_reading.specs.declared.nodes.Node.{Node}
-use Rattle.derivation_reading.specs.declared.unread.Unread.{Unread}
-use Rattle.derivation_reading.specs.declared.unread.Unread.TheVariants.{Strange, Memory}
+use Rattle.spelling.specs.declared.unread.Unread.{Unread}
+use Rattle.spelling.specs.declared.unread.Unread.TheVariants.{Strange, Memory}
 
 -- what was read, where it is there; want of memory may come at any lexemes
 abbrev pub Answers : Option (Step × List Lexeme) → Result Node Unread → List Lexeme → Type 0

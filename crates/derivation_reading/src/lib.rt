@@ -13,7 +13,6 @@ mod read;
 mod sets;
 mod statement;
 pub mod theorems;
-mod unread;
 
 pub use fault::DerivFault;
 pub use read::read_derivation;

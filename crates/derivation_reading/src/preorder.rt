@@ -7,8 +7,8 @@ use crate::DerivFault;
 use crate::nodes::Node;
 use crate::places::Places;
 use crate::statement::read_node;
-use crate::unread::Unread;
 use sb_text::{Token, statements};
+use spelling::Unread;
 use sqlite_items::Items;
 use std::alloc::Global;
 

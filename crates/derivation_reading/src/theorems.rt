@@ -12,7 +12,6 @@ ghost use Rattle.derivation_reading.specs.declared.fault.DerivFault.{DerivFault}
 ghost use Rattle.derivation_reading.specs.declared.fault.DerivFault.TheVariants.{Memory};
 ghost use Rattle.derivation_reading.specs.Ancestors.{IsLow};
 ghost use Rattle.derivation_reading.specs.Faults.{IsFirstFault, IsAccepted, ReadsDerivation};
-ghost use Rattle.derivation_reading.specs.Derivations as derivation;
 ghost use Rattle.star_model.specs.Monotone.{nodes};
 
 /// One text has at most one first fault.
@@ -58,7 +57,7 @@ pub fn one_spelled_derivation()
 /// The canonical text of a derivation spells it where it can be written and its STARs are named by words, and where any text spells it.
 /// A comment on a line of its own before it makes no difference.
 pub fn canonical_derivations_spell()
-    ensures written { (tree : Deriv) → IsWritable tree → Every NamesWord (steps tree) → SpellsDerivation (derivation.canonical tree) tree }
-    ensures spelled { (text : List ℕ) (tree : Deriv) → SpellsDerivation text tree → SpellsDerivation (derivation.canonical tree) tree }
-    ensures commented { (line : List ℕ) (tree : Deriv) → AllPass in_comment line → IsWritable tree → Every NamesWord (steps tree) → SpellsDerivation (commented line (derivation.canonical tree)) tree }
+    ensures written { (tree : Deriv) → IsWritable tree → Every NamesWord (steps tree) → SpellsDerivation (canonical tree) tree }
+    ensures spelled { (text : List ℕ) (tree : Deriv) → SpellsDerivation text tree → SpellsDerivation (canonical tree) tree }
+    ensures commented { (line : List ℕ) (tree : Deriv) → AllPass in_comment line → IsWritable tree → Every NamesWord (steps tree) → SpellsDerivation (commented line (canonical tree)) tree }
 {}

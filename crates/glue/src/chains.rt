@@ -1,10 +1,8 @@
 // The chains of Glue.
 
-ghost use Rattle.std.specs.Prelude.{◌≡◌, ◌≤◌, ◌&&◌, length};
-ghost use Rattle.std.specs.List.{list_all};
-ghost use Rattle.star_model.specs.Plans.{names, is_chain, rank, differs};
+ghost use Rattle.std.specs.Prelude.{◌≡◌, ◌≤◌, length};
 
-use star_model::plans::{Chain, GlueOp, Require};
+use star_model::plans::{Chain, GlueOp};
 
 /// The lists of operators of Glue without repeats, the shorter first. Each chain is one of them.
 pub const CHAINS: [&[GlueOp]; 16] = [
@@ -25,56 +23,6 @@ pub const CHAINS: [&[GlueOp]; 16] = [
     &[GlueOp::Store, GlueOp::Sort, GlueOp::Ship],
     &[GlueOp::Store, GlueOp::Ship, GlueOp::Sort],
 ];
-
-fn rank(word: GlueOp) -> u8
-    ensures { result ≡ rank word }
-{
-    match word {
-        GlueOp::Sort => 0,
-        GlueOp::Ship => 1,
-        GlueOp::Store => 2,
-    }
-}
-
-fn differs(word: GlueOp, other: GlueOp) -> bool
-    ensures { result ≡ differs word other }
-{
-    rank(word) != rank(other)
-}
-
-fn names(require: &Require, word: GlueOp) -> bool
-    ensures { result ≡ names require.now word }
-{
-    match word {
-        GlueOp::Sort => require.order.len() != 0,
-        GlueOp::Ship => require.site.is_some(),
-        GlueOp::Store => require.temp || require.path.len() != 0,
-    }
-}
-
-fn is_none_of(word: GlueOp, others: &[GlueOp]) -> bool
-    ensures { result ≡ list_all (differs word) others.now }
-{
-    others.iter().all(|other| differs(word, *other))
-}
-
-// Whether the requirement names the operator, and it is none of the others.
-fn is_new_word(require: &Require, word: GlueOp, others: &[GlueOp]) -> bool
-    ensures { result ≡ (names require.now word && list_all (differs word) others.now) }
-{
-    names(require, word) && is_none_of(word, others)
-}
-
-/// Whether the requirement names each of these operators, and none comes twice.
-#[tactic(auto, unfolding(star_model::specs::Plans::is_chain))]
-pub fn is_chain(require: &Require, words: &[GlueOp]) -> bool
-    ensures { result ≡ is_chain require.now words.now }
-{
-    match words {
-        [] => true,
-        [word, more @ ..] => is_new_word(require, *word, more) && is_chain(require, more),
-    }
-}
 
 /// The chain of these operators.
 pub fn chain_of(words: &[GlueOp]) -> Chain

@@ -6,9 +6,9 @@ ghost use Rattle.dominance_prune.specs.Gathering.{Gathers, From};
 ghost use Rattle.lolepop.specs.Derived.{is_better_plan, chained};
 ghost use Rattle.glue.specs.Gluing.{is_wanted, ChainsTo, ChainsOver};
 
-use crate::chains::{chain_of, is_chain};
+use crate::chains::chain_of;
 use dominance_prune::PlanSet;
-use lolepop::{Entry, glue_operator, step};
+use lolepop::{Entry, glue_operator, is_chain, step};
 use plan_offers::is_covered;
 use property_vector::satisfies;
 use star_model::costs::Costs;

@@ -1,39 +1,14 @@
-// Bindings: the values of a reference's arguments, and those of for-all names. None of it takes memory.
+// Bindings of for-all names. None of it takes memory.
 
 ghost use Rattle.std.specs.Prelude.{◌≡◌, ◌<◌, ◌≤◌, ◌+◌, ◌++◌, ◌∷◌, [], length};
-ghost use Rattle.star_model.specs.Expected.{values_of, meets, bound};
+ghost use Rattle.star_model.specs.Expected.{bound};
 ghost use Rattle.star_model.specs.WellFormed.{WellFormedQuery};
 ghost use Rattle.plan_check.specs.Bound.{member_numbered};
 
 use star_model::query::Query;
-use star_model::rules::{Condition, ForAll, Range, ValueExpr};
+use star_model::rules::{ForAll, Range};
 use star_model::values::RuleValue;
-use star_value::{Env, holds, numbered, value};
-
-// The values of a reference's arguments, as bindings of the parameters of the STAR to which it refers.
-pub fn values(args: &[ValueExpr], env: &Env, query: &Query) -> Env
-    requires query { WellFormedQuery query.now }
-    requires few { length args.now ≤ 10 }
-    ensures { result ≡ values_of query.now env.now args.now }
-{
-    let mut values = Env::new();
-    for (i, arg) in args.iter().enumerate() {
-        let pushed = values.try_push(value(arg, env, query));
-        prove!(pushed.is_ok());
-    }
-    values
-}
-
-// Whether the alternative's condition holds under these bindings. Without a condition it does.
-pub fn meets(condition: &Option<Condition>, env: &Env, query: &Query) -> bool
-    requires { WellFormedQuery query.now }
-    ensures { result ≡ meets query.now env.now condition.now }
-{
-    match condition {
-        None => true,
-        Some(condition) => holds(condition, env, query),
-    }
-}
+use star_value::{Env, numbered};
 
 // The member of the range that has this number, from 1.
 fn member(query: &Query, range: &Range, env: &Env, number: u32) -> Option<RuleValue>

@@ -7,11 +7,11 @@ ghost use Rattle.star_model.specs.Stars.{alternative_of};
 ghost use Rattle.star_model.specs.WellFormed.{WellFormedQuery};
 
 use crate::answers::{Basis, Referred};
-use crate::bindings::{bind, meets};
+use crate::bindings::bind;
 use star_check::CheckedRules;
 use star_model::lists::Name;
 use star_model::rules::{Alternative, PlanExpr};
-use star_value::Env;
+use star_value::{Env, meets};
 
 // The alternative of the STAR that has this number, from 1.
 fn alternative<'a>(rules: &'a CheckedRules, star: &Name, number: u32) -> Option<&'a Alternative>

@@ -1,20 +1,17 @@
 // Goals: the root STAR that a goal node calls, and the target of its plans. None of it takes memory.
 
-ghost use Rattle.std.specs.Prelude.{◌≡◌, ◌&&◌, not, nat_eq, ◌∷◌, []};
+ghost use Rattle.std.specs.Prelude.{◌≡◌, ◌&&◌, not, nat_eq};
 ghost use Rattle.std.specs.Option.{option_map};
 ghost use Rattle.star_model.specs.Expected.{Call, ForGoal, may_split, root_call, goal_body};
 ghost use Rattle.star_model.specs.Goals.{is_target};
-ghost use Rattle.star_model.specs.Meaning.{plain};
 ghost use Rattle.star_model.specs.Sets.{union, meet};
 ghost use Rattle.star_model.specs.WellFormed.{WellFormedQuery};
 
 use query_facts::{eligible, used};
-use star_model::columns::ColList;
-use star_model::plans::{Goal, Props, Require};
+use star_model::plans::{Goal, Props};
 use star_model::query::Query;
 use star_model::sets::QuantSet;
-use star_model::values::{RuleValue, StreamValue};
-use star_value::Env;
+use star_value::{Env, root_values};
 
 // Whether these are two nonempty disjoint sets whose union is the set.
 fn is_split(tables: QuantSet, left: QuantSet, right: QuantSet) -> bool
@@ -34,52 +31,15 @@ fn may_split(tables: QuantSet, split: &Option<(QuantSet, QuantSet)>) -> bool
     }
 }
 
-// A stream that requires nothing.
-fn plain(tables: QuantSet) -> RuleValue
-    ensures { result ≡ plain tables }
-{
-    RuleValue::Stream(StreamValue {
-        tables,
-        require: Require {
-            order: ColList::new(),
-            site: None,
-            temp: false,
-            path: ColList::new(),
-        },
-    })
-}
-
-fn of_one(stream: RuleValue, pushed: RuleValue) -> Env
-    ensures { result ≡ stream ∷ pushed ∷ [] }
-{
-    let mut values = Env::new();
-    let first = values.try_push(stream);
-    let second = values.try_push(pushed);
-    prove!(first.is_ok() && second.is_ok());
-    values
-}
-
-fn of_two(left: RuleValue, right: RuleValue, pushed: RuleValue) -> Env
-    ensures { result ≡ left ∷ right ∷ pushed ∷ [] }
-{
-    let mut values = of_one(left, right);
-    let third = values.try_push(pushed);
-    prove!(third.is_ok());
-    values
-}
-
 // The name of the root STAR of the split, and the values of its parameters.
 fn root_call(goal: Goal, split: &Option<(QuantSet, QuantSet)>) -> (&'static [u8], Env)
     ensures { Call result.0.now result.1 ≡ root_call goal.tables goal.pushed split.now }
 {
-    let pushed = RuleValue::Preds(goal.pushed);
-    match split {
-        None => (b"AccessRoot".as_slice(), of_one(plain(goal.tables), pushed)),
-        Some((left, right)) => (
-            b"JoinRoot".as_slice(),
-            of_two(plain(*left), plain(*right), pushed),
-        ),
-    }
+    let name = match split {
+        None => b"AccessRoot".as_slice(),
+        Some(_) => b"JoinRoot".as_slice(),
+    };
+    (name, root_values(goal, *split))
 }
 
 // What the body of a goal node stands against that stands against the wanted goal: a call of a root STAR. None where the node has another

@@ -12,10 +12,10 @@ ghost use Rattle.plan_check.specs.Places.{IsPlace};
 
 use crate::answers::{Basis, Judged, NotDerived, Referred};
 use crate::bodies::reference_body;
-use crate::chains::is_chain;
 use crate::goals::goal_body;
 use crate::parts::{as_binary, as_leaf, as_unary, called, glue_of};
 use crate::results::{enforced, stepped, targeted};
+use lolepop::is_chain;
 use star_check::CheckedRules;
 use star_model::columns::ColList;
 use star_model::derivations::Deriv;

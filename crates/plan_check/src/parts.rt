@@ -4,30 +4,16 @@
 ghost use Rattle.std.specs.Prelude.{◌≡◌};
 ghost use Rattle.std.specs.Option.{option_map, option_copied};
 ghost use Rattle.star_model.specs.Costs.{same_flavour};
-ghost use Rattle.star_model.specs.Expected.{Expression, ForGoal, goal_of, glue_of, as_call, leaf_of, unary_of, binary_of, as_leaf, as_unary, as_binary};
+ghost use Rattle.star_model.specs.Expected.{Expression, ForGoal, glue_of, as_call, leaf_of, unary_of, binary_of, as_leaf, as_unary, as_binary};
 ghost use Rattle.star_model.specs.WellFormed.{WellFormedQuery};
 ghost use Rattle.plan_check.specs.Places.{IsPlace};
 
 use crate::answers::Basis;
-use crate::bindings::values;
-use query_facts::crossing;
 use star_model::lists::{List, Name};
 use star_model::plans::{Goal, Op, Require};
 use star_model::query::Query;
 use star_model::rules::{Flavour, PlanExpr, ValueExpr};
-use star_model::sets::{PredSet, QuantSet};
-use star_value::{Env, operator, preds, stream};
-
-// The goal of a Glue over these quantifiers: of the predicates, those that touch the quantifiers and others are pushed.
-fn goal_of(query: &Query, tables: QuantSet, preds: PredSet) -> Goal
-    requires { WellFormedQuery query.now }
-    ensures { ForGoal result.tables result.pushed ≡ goal_of query.now tables preds }
-{
-    Goal {
-        tables,
-        pushed: preds.meet(crossing(query, tables)),
-    }
-}
+use star_value::{Env, glued_goal, operator, preds, stream, values};
 
 // What a Glue node satisfies, and its goal.
 #[tactic(auto, using(star_model::specs::PlanExprCases::planExprCases_made))]
@@ -41,7 +27,7 @@ pub fn glue_of(expr: &PlanExpr, env: &Env, query: &Query) -> Option<(Require, Go
             preds: applied,
         } => {
             let wanted = stream(over, env, query);
-            let goal = goal_of(query, wanted.tables, preds(applied, env, query));
+            let goal = glued_goal(query, wanted.tables, preds(applied, env, query));
             Some((wanted.require, goal))
         }
         PlanExpr::Reference { .. } => None,

@@ -1,10 +1,7 @@
 // What Glue makes of an access of a heap.
 ghost use Rattle.star_model.specs.WellFormed.{WellFormedQuery};
 
-use crate::formulas::FORMULAS;
-use crate::nodes::{EXCHANGED, TWO_SITES};
 use crate::operators::operator;
-use crate::running::{Asked, differing_rows, push_difference};
 use derivation_print::print_derivation;
 use dominance_prune::{Offer, PlanSet};
 use glue::glue;
@@ -16,19 +13,6 @@ use star_model::plans::{Op, Require};
 use star_model::query::Query;
 use star_model::sets::{PredSet, QuantSet};
 use std::alloc::{AllocError, Global};
-use std::test::Fail;
-
-const SORTED: &str = "select t.k from t order by t.k at a;";
-
-// Sorting is cheap at the first site. A shipment has no order of its own, and ends a temporary.
-const CHEAP_TARGET: &str = "nothing => glue; 510 510
-SORT [t.k]; SHIP a => glue ship sort; 2510 2510
-SHIP a; STORE [t.k] => glue ship store; 2310 100
-SORT [t.k]; SHIP a; STORE [t.k] => glue ship sort store; 2710 100
-SHIP b => glue; 510 510";
-
-// Sorting is cheap where the table is.
-const CHEAP_SOURCE: &str = "SORT [t.k]; SHIP a => glue sort ship; 2110 2110";
 
 // The requirement of these operators; none where one isn't of Glue.
 fn required(query: &Query, text: &str) -> Option<Require> {
@@ -73,7 +57,7 @@ fn glued(
 }
 
 // The first line of the entry's derivation, and its plan's costs.
-fn told(alloc: Global, entry: &Entry) -> Result<String, AllocError> {
+fn entry_told(alloc: Global, entry: &Entry) -> Result<String, AllocError> {
     let text = print_derivation(alloc, &entry.trace.unshare(alloc)?)?;
     let text = String::from_utf8_lossy(alloc, text.as_slice())?;
     let first = text.lines().next().unwrap_or("no derivation");
@@ -95,45 +79,19 @@ fn all_told(alloc: Global, plans: PlanSet<Entry>) -> Result<String, AllocError> 
     for entry in copies.iter() {
         let between = if told_all.is_empty() { "" } else { " or " };
         told_all.push_str(between)?;
-        told_all.push_str(told(alloc, entry)?.as_str())?;
+        told_all.push_str(entry_told(alloc, entry)?.as_str())?;
     }
     Ok(told_all)
 }
 
-/// The rows of a table of requirements of which Glue makes something else.
-pub fn differing_glued(
-    alloc: Global,
-    query: &Query,
-    costs: &Costs,
-    rows: &str,
-) -> Result<String, AllocError>
+/// The first line of the derivation of what Glue makes of an access of the first quantifier's heap
+/// for a requirement, and its costs. The text has the operators that the requirement names, or
+/// `nothing`.
+pub fn told(alloc: Global, query: &Query, costs: &Costs, text: &str) -> Result<String, AllocError>
     requires { WellFormedQuery query.now }
 {
-    let mut differing = String::new(alloc);
-    for row in rows.lines() {
-        let (text, wanted) = row.split_once(" => ").unwrap_or((row, "no answer"));
-        let told = match required(query, text) {
-            Some(require) => all_told(alloc, glued(alloc, query, costs, &require)?)?,
-            None => String::from_str(alloc, "not understood")?,
-        };
-        push_difference(&mut differing, row, told.as_str(), wanted)?;
+    match required(query, text) {
+        Some(require) => all_told(alloc, glued(alloc, query, costs, &require)?),
+        None => String::from_str(alloc, "not understood"),
     }
-    Ok(differing)
-}
-
-#[test]
-fn enforces_where_it_is_cheap(rt: HostRuntime) -> Result<(), Fail> {
-    let tables = [(TWO_SITES, CHEAP_TARGET), (EXCHANGED, CHEAP_SOURCE)];
-    for (catalogue, rows) in tables {
-        let differing = differing_rows(
-            rt.alloc(),
-            FORMULAS,
-            catalogue,
-            SORTED,
-            Asked::Glued,
-            rows,
-        )?;
-        assert_eq!(rt; differing.as_str(), "");
-    }
-    Ok(())
 }

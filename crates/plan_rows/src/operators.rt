@@ -18,7 +18,8 @@ fn member(number: &str) -> Option<u8>
     }
 }
 
-fn quants(text: &str) -> Option<QuantSet> {
+/// The quantifiers of a text, as `{1,2}`.
+pub fn quants(text: &str) -> Option<QuantSet> {
     let mut set = QuantSet::empty();
     if text != "{}" {
         for number in text.strip_prefix('{')?.strip_suffix('}')?.split(',') {
@@ -28,7 +29,8 @@ fn quants(text: &str) -> Option<QuantSet> {
     Some(set)
 }
 
-fn preds(text: &str) -> Option<PredSet> {
+/// The predicates of a text, as `{1,2}`.
+pub fn preds(text: &str) -> Option<PredSet> {
     let mut set = PredSet::empty();
     if text != "{}" {
         for number in text.strip_prefix('{')?.strip_suffix('}')?.split(',') {

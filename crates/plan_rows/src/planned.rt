@@ -4,7 +4,6 @@ ghost use Rattle.star_model.specs.WellFormed.{WellFormedQuery};
 ghost use Rattle.std.specs.Prelude.{IfOk, IfSome};
 
 use crate::operators::{input_count, operator};
-use crate::running::push_difference;
 use lolepop::{PlanNode, apply};
 use star_model::costs::Costs;
 use star_model::plans::Op;
@@ -27,7 +26,8 @@ fn operators(alloc: Global, query: &Query, text: &str) -> Result<Option<Vec<Op>>
     Ok(Some(ops))
 }
 
-// The plan whose operator is the last, and takes the operators of the plan; none where one isn't applicable.
+// The plan whose operator is the last, and takes the operators of the plan; none where one isn't
+// applicable.
 fn planned(
     alloc: Global,
     query: &Query,
@@ -77,8 +77,9 @@ fn push_numbers(
     told.push_str(format!(in alloc; "{mark}{cost} {rescan} {card}")?.as_str())
 }
 
-// The numbers of the nodes of a text's plan.
-fn numbers(alloc: Global, query: &Query, costs: &Costs, text: &str) -> Result<String, AllocError>
+/// The numbers of the nodes of a text's plan, `COST RESCAN CARD` of each, in the order of the
+/// operators.
+pub fn told(alloc: Global, query: &Query, costs: &Costs, text: &str) -> Result<String, AllocError>
     requires { WellFormedQuery query.now }
 {
     let Some(mut ops) = operators(alloc, query, text)? else {
@@ -93,22 +94,4 @@ fn numbers(alloc: Global, query: &Query, costs: &Costs, text: &str) -> Result<St
     let mut told = String::new(alloc);
     push_numbers(&mut told, alloc, &node, HIGHEST)?;
     Ok(told)
-}
-
-/// The rows of a table of plans whose nodes have other numbers.
-pub fn differing_nodes(
-    alloc: Global,
-    query: &Query,
-    costs: &Costs,
-    rows: &str,
-) -> Result<String, AllocError>
-    requires { WellFormedQuery query.now }
-{
-    let mut differing = String::new(alloc);
-    for row in rows.lines() {
-        let (text, wanted) = row.split_once(" => ").unwrap_or((row, "no answer"));
-        let told = numbers(alloc, query, costs, text)?;
-        push_difference(&mut differing, row, told.as_str(), wanted)?;
-    }
-    Ok(differing)
 }

@@ -5,8 +5,8 @@ use Rattle.spelling.specs.Lexemes.{Lexeme}
 use Rattle.spelling.specs.Reading.{Reader}
 use Rattle.spelling.specs.SeriesReading.{series}
 use Rattle.spelling.specs.SeriesReadingCases.{Stands, stopped}
-use Rattle.query_graph.specs.declared.unread.Unread.{Unread}
-use Rattle.query_graph.specs.declared.unread.Unread.TheVariants.{Strange, Memory}
+use Rattle.spelling.specs.declared.unread.Unread.{Unread}
+use Rattle.spelling.specs.declared.unread.Unread.TheVariants.{Strange, Memory}
 use Rattle.query_graph.specs.StatementReading.{Answers}
 
 module _ {A W : Type 0} (said : W → A) where

@@ -15,7 +15,7 @@ use Rattle.star_model.specs.declared.query.Operand.TheVariants as operand
 use Rattle.spelling.specs.Lexemes.{Lexeme, Word, Number, Text, Symbol, IsStatements, comma, dot, joined_by}
 use Rattle.star_model.specs.Every.{HasItem, Every}
 use Rattle.star_model.specs.Names.{place_of, is_among}
-use Rattle.spelling.specs.Names.{all_of}
+use Rattle.spelling.specs.Names.{all_of, ◌>>=◌}
 
 -- ---- the grammar
 

@@ -7,10 +7,10 @@ use Rattle.star_model.specs.Names.{is_among}
 use Rattle.query_graph.specs.Queries.{ColumnName, Item, Whole, Negative, Quoted, Side, OfColumn, OfConstant, Comparison, QueryStatement, reserved_in_queries}
 use Rattle.spelling.specs.Reading.{Reader, ◌>>=◌, ◌>>◌, pure, the_word, the_symbol, a_word, a_number, a_text, either, only}
 use Rattle.spelling.specs.SeriesReading.{series}
-use Rattle.query_graph.specs.declared.unread.Unread.{Unread}
+use Rattle.spelling.specs.declared.unread.Unread.{Unread}
 use Rattle.query_graph.specs.Words.{said}
 use Rattle.query_graph.specs.declared.words.QueryWords.{QueryWords}
-use Rattle.query_graph.specs.declared.unread.Unread.TheVariants.{Strange, Memory}
+use Rattle.spelling.specs.declared.unread.Unread.TheVariants.{Strange, Memory}
 
 -- ---- the parts of a query
 

@@ -5,9 +5,8 @@ ghost use Rattle.star_model.specs.Names.{is_among};
 ghost use Rattle.query_graph.specs.Words.{said_column};
 ghost use Rattle.query_graph.specs.StatementReading.{Answers, free_word, column_at, columns_at};
 
-use crate::unread::Unread;
 use crate::words::ColumnWords;
-use spelling::Cursor;
+use spelling::{Cursor, Unread};
 use star_model::lists::{List, Name};
 use std::alloc::Global;
 

@@ -5,9 +5,8 @@ ghost use Rattle.query_graph.specs.Words.{said_side, said_comparison};
 ghost use Rattle.query_graph.specs.StatementReading.{Answers, cmp_at, side_at, comparison_at, comparisons_at};
 
 use crate::columns::column;
-use crate::unread::Unread;
 use crate::words::{ComparisonWords, ConstantWords, SideWords};
-use spelling::{Cursor, text_bytes};
+use spelling::{Cursor, Unread, text_bytes};
 use star_model::lists::{Bytes, List};
 use star_model::query::Cmp;
 use std::alloc::Global;

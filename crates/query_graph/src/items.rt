@@ -4,9 +4,8 @@ ghost use Rattle.query_graph.specs.Words.{said_item};
 ghost use Rattle.query_graph.specs.StatementReading.{Answers, own_name_at, item_at, items_at};
 
 use crate::columns::{free_name, is_reserved};
-use crate::unread::Unread;
 use crate::words::ItemWords;
-use spelling::Cursor;
+use spelling::{Cursor, Unread};
 use star_model::lists::{List, Name};
 use std::alloc::Global;
 

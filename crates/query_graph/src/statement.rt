@@ -11,10 +11,9 @@ ghost use Rattle.query_graph.specs.Faults.{Says};
 use crate::columns::{columns, free_name};
 use crate::comparisons::comparisons;
 use crate::items::items;
-use crate::unread::Unread;
 use crate::words::{ColumnWords, ComparisonWords, QueryWords};
 use sb_text::{Statement, Token, statements};
-use spelling::Cursor;
+use spelling::{Cursor, Unread};
 use star_model::lists::{List, Name};
 use std::alloc::{AllocError, Global};
 

@@ -11,7 +11,6 @@ ghost use Rattle.query_graph.specs.Queries.{QueryStatement, IsQueryStatement, qu
 ghost use Rattle.query_graph.specs.declared.fault.QueryFault.{QueryFault};
 ghost use Rattle.query_graph.specs.Faults.{NamesUnknown, DefinesTwice, Beyond, HasTwoTypes, Says, HasFault, IsFirstFault, IsAccepted};
 ghost use Rattle.spelling.specs.Lexemes.{Lexeme, IsStatements};
-ghost use Rattle.catalogue.specs.Catalogues as catalogue;
 ghost use Rattle.star_model.specs.declared.catalogue.TableDef.{TableDef};
 ghost use Rattle.star_model.specs.declared.catalogue.ColumnDef.{ColumnDef};
 

@@ -4,7 +4,7 @@ use Rattle.star_model.specs.Vectors.{same_numbers}
 use Rattle.star_model.specs.declared.rules.Flavour.{Flavour}
 use Rattle.star_model.specs.declared.rules.Which.{Which}
 use Rattle.star_model.specs.declared.rules.Which.TheVariants as which
-use Rattle.spelling.specs.Reading.{Reader, pure, given, a_word, the_symbol}
+use Rattle.spelling.specs.Reading.{Reader, ◌>>=◌, ◌>>◌, pure, given, a_word, the_symbol}
 use Rattle.star_model.specs.FlavourWords.{flavour_of}
 
 -- the cost that is so called

@@ -4,6 +4,7 @@ use Rattle.std.specs.List.{count_by}
 use Rattle.star_model.specs.Monotone.{nodes}
 use Rattle.star_model.specs.declared.rules.Alternative.{Alternative}
 use Rattle.star_model.specs.declared.rules.StarDef.{StarDef}
+use Rattle.star_model.specs.declared.rules.FormulaDef.{FormulaDef}
 use Rattle.star_model.specs.declared.rules.RuleFile.{RuleFile}
 use Rattle.star_model.specs.declared.faults.LimitKind.{LimitKind}
 use Rattle.star_model.specs.declared.faults.LimitKind.TheVariants as limit

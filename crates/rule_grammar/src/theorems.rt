@@ -2,12 +2,11 @@
 
 ghost use Rattle.std.specs.Prelude.{◌≡◌, ◌↔◌, ◌+◌, ◌<◌, ℕ, List, ◌∷◌, ◌++◌, length, codes, Some};
 ghost use Rattle.spelling.specs.Lexemes.{Lexeme, Word, IsStatements, equals};
-ghost use Rattle.rule_grammar.specs.Rules as rule_file;
+ghost use Rattle.rule_grammar.specs.Rules.{canonical, alternative_lexemes, parameter_lexemes, SpellsStar, SpellsFormulaDef, formula_def_lexemes, rule_lexemes, SpellsRules};
 ghost use Rattle.star_model.specs.WellFormedRules.{IsName, IsValue, IsRange, IsCondition, IsAlternative};
 ghost use Rattle.rule_grammar.specs.Values.{value_lexemes, range_lexemes, condition_lexemes};
 ghost use Rattle.rule_grammar.specs.ValueReading.{value_at, range_at, NoSquare};
 ghost use Rattle.rule_grammar.specs.ConditionReading.{condition_at};
-ghost use Rattle.rule_grammar.specs.Rules.{alternative_lexemes, parameter_lexemes, SpellsStar, SpellsFormulaDef, formula_def_lexemes, rule_lexemes, SpellsRules};
 ghost use Rattle.rule_grammar.specs.StarReading.{for_all_at, alternative_at, parameter_at, star_of};
 ghost use Rattle.star_model.specs.FlavourWords.{which_word, flavour_word};
 ghost use Rattle.rule_grammar.specs.FormulaHeads.{FormulaHead, formula_head_at};
@@ -79,7 +78,7 @@ pub fn fewest_brackets_spell()
 
 /// The canonical text of a rule file spells it where any text does.
 pub fn canonical_rule_files_spell()
-    ensures { (text : List ℕ) (rules : RuleFile) → SpellsRules text rules → SpellsRules (rule_file.canonical rules) rules }
+    ensures { (text : List ℕ) (rules : RuleFile) → SpellsRules text rules → SpellsRules (canonical rules) rules }
 {}
 
 /// What the smallest rule file that is accepted spells.

@@ -6,8 +6,8 @@ ghost use Rattle.spelling.specs.Writing.{puts};
 ghost use Rattle.rule_printing.specs.Printing.{further_lexemes};
 
 use crate::value_print::{Values, print_binary};
-use star_model::flavours::flavour_word;
 use spelling::{Writer, print_behind, print_call};
+use star_model::flavours::flavour_word;
 use star_model::rules::{PlanExpr, ValueExpr};
 use std::alloc::AllocError;
 

@@ -6,8 +6,8 @@ ghost use Rattle.spelling.specs.Writing.{puts};
 
 use crate::condition_print::{print_condition, print_range};
 use crate::plan_print::print_plan;
-use star_model::flavours::kind_word;
 use spelling::{Printer, Writer, print_call, print_joined, print_run};
+use star_model::flavours::kind_word;
 use star_model::rules::{Alternative, Condition, ForAll, Param, StarDef};
 use std::alloc::AllocError;
 

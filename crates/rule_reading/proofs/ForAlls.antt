@@ -8,9 +8,9 @@ use Rattle.spelling.specs.Reading.{Reads, the_word}
 use Rattle.rule_grammar.specs.StarReading.{with_ranges, for_all_at, ranges_behind, ranges_at}
 use Rattle.spelling.proofs.Laws.{the_word_reads}
 use Rattle.rule_grammar.proofs.Laws.{for_all_spelled}
-use Rattle.rule_reading.specs.declared.unread.Unread.{Unread}
-use Rattle.rule_reading.specs.declared.unread.Unread.TheVariants.{Strange, Memory}
-use Rattle.rule_reading.specs.Answers.{Answers}
+use Rattle.spelling.specs.declared.unread.Unread.{Unread}
+use Rattle.spelling.specs.declared.unread.Unread.TheVariants.{Strange, Memory}
+use Rattle.spelling.specs.Answers.{Answers}
 
 -- these are done, and what is left is read behind them
 pub record Going (parameters : List (List ℕ)) (depth : ℕ) (all : List Lexeme) (done : List ForAll) (left : List Lexeme) : Type 0 where

@@ -4,9 +4,9 @@ use Rattle.star_model.specs.declared.rules.Condition.{Condition}
 use Rattle.star_model.specs.declared.rules.PlanExpr.{PlanExpr}
 use Rattle.spelling.specs.Lexemes.{Lexeme}
 use Rattle.rule_grammar.specs.StarReading.{when_at, body_at, conditional_body_at}
-use Rattle.rule_reading.specs.declared.unread.Unread.{Unread}
-use Rattle.rule_reading.specs.declared.unread.Unread.TheVariants.{Strange, Memory}
-use Rattle.rule_reading.specs.Answers.{Answers}
+use Rattle.spelling.specs.declared.unread.Unread.{Unread}
+use Rattle.spelling.specs.declared.unread.Unread.TheVariants.{Strange, Memory}
+use Rattle.spelling.specs.Answers.{Answers}
 use Rattle.spelling.specs.Joining.{paired}
 
 pub conditional : (scope : List (List ℕ)) (depth : ℕ) (l0 l1 l2 : List Lexeme) (c : Option Condition) (body : Result PlanExpr Unread) → when_at scope depth l0 ≡ Some (c, l1)

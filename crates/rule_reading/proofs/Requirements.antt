@@ -13,9 +13,9 @@ use Rattle.spelling.specs.Reading.{Reader, ◌>>=◌, Reads, the_symbol, a_word}
 use Rattle.rule_grammar.specs.ValueReading.{value_at, valued_of, required_at, requiring, requirement_at, requirement_head, turn, requirements_at}
 use Rattle.spelling.proofs.Laws.{the_symbol_reads, a_word_reads, then_reads}
 use Rattle.rule_grammar.proofs.Laws.{value_is_spelled}
-use Rattle.rule_reading.specs.declared.unread.Unread.{Unread}
-use Rattle.rule_reading.specs.declared.unread.Unread.TheVariants.{Strange, Memory}
-use Rattle.rule_reading.specs.Answers.{Answers}
+use Rattle.spelling.specs.declared.unread.Unread.{Unread}
+use Rattle.spelling.specs.declared.unread.Unread.TheVariants.{Strange, Memory}
+use Rattle.spelling.specs.Answers.{Answers}
 
 -- so far this value was read, and requirements may follow
 pub record Goes (inner : Reader ValueExpr) (all : Option (ValueExpr × List Lexeme)) (t : ValueExpr) (left : List Lexeme) : Type 0 where

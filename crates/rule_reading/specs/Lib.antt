@@ -1,4 +1,3 @@
-pub mod Answers
 pub mod Nests
 pub mod PlanNests
 pub mod FormulaDefs

@@ -7,8 +7,8 @@ use Rattle.star_model.specs.declared.rules.Condition.{Condition}
 use Rattle.spelling.specs.Lexemes.{Lexeme}
 use Rattle.rule_grammar.specs.ValueReading.{value_at}
 use Rattle.rule_grammar.specs.ConditionReading.{condition_at}
-use Rattle.rule_reading.specs.declared.unread.Unread.{Unread}
-use Rattle.rule_reading.specs.Answers.{Answers}
+use Rattle.spelling.specs.declared.unread.Unread.{Unread}
+use Rattle.spelling.specs.Answers.{Answers}
 
 -- it may be called, and reads where so many values may be open inside one another
 pub record NestsValues (depth : ℕ) (pre : Global → Bor (List (List ℕ)) → MutBor (List Lexeme) → ℕ → Type 0)

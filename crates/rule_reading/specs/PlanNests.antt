@@ -5,8 +5,8 @@ use denote.Ref.{Bor, MutBor}
 use Rattle.star_model.specs.declared.rules.PlanExpr.{PlanExpr}
 use Rattle.spelling.specs.Lexemes.{Lexeme}
 use Rattle.rule_grammar.specs.PlanReading.{plan_at}
-use Rattle.rule_reading.specs.declared.unread.Unread.{Unread}
-use Rattle.rule_reading.specs.Answers.{Answers}
+use Rattle.spelling.specs.declared.unread.Unread.{Unread}
+use Rattle.spelling.specs.Answers.{Answers}
 
 -- it may be called, and reads where so many plans and values may be open inside one another
 pub record NestsPlans (depth : ℕ) (pre : Global → Bor (List (List ℕ)) → MutBor (List Lexeme) → ℕ → Type 0)

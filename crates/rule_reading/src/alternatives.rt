@@ -1,14 +1,13 @@
 // Reading the alternatives of STARs.
 ghost use Rattle.std.specs.Prelude.{map};
 ghost use Rattle.rule_grammar.specs.StarReading.{when_at, body_at, conditional_body_at, alternative_at, alternatives_at};
-ghost use Rattle.rule_reading.specs.Answers.{Answers};
+ghost use Rattle.spelling.specs.Answers.{Answers};
 
 use crate::conditions::condition;
 use crate::for_alls::ranges;
 use crate::plans::plan;
 use crate::scope::Scope;
-use crate::unread::Unread;
-use spelling::{Cursor, paired};
+use spelling::{Cursor, Unread, paired};
 use star_model::lists::List;
 use star_model::rules::{Alternative, Condition, Param, PlanExpr};
 use std::alloc::Global;

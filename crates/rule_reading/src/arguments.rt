@@ -3,12 +3,11 @@ ghost use Rattle.std.specs.Prelude.{◌≡◌};
 ghost use Rattle.star_model.specs.WellFormedRules.{arguments_of};
 ghost use Rattle.rule_grammar.specs.ValueReading.{value_at};
 ghost use Rattle.rule_grammar.specs.PlanReading.{counted, arguments_at, own_arguments_at, more_arguments_at};
-ghost use Rattle.rule_reading.specs.Answers.{Answers};
+ghost use Rattle.spelling.specs.Answers.{Answers};
 
 use crate::scope::Scope;
-use crate::unread::Unread;
 use crate::values::value;
-use spelling::Cursor;
+use spelling::{Cursor, Unread};
 use star_model::lists::List;
 use star_model::rules::{Flavour, ValueExpr};
 use std::alloc::Global;

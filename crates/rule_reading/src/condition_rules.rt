@@ -1,17 +1,16 @@
 // Reading a condition by the rules of its grammar.
 ghost use Rattle.rule_grammar.specs.ValueReading.{value_at, one_at, last_two_at, two_at};
 ghost use Rattle.rule_grammar.specs.ConditionReading.{condition_at, condition_by, conditional};
-ghost use Rattle.rule_reading.specs.Answers.{Answers};
+ghost use Rattle.spelling.specs.Answers.{Answers};
 ghost use Rattle.rule_reading.specs.Nests.{NestsConditions};
 
 use crate::condition_nodes::{binary, join, negation, unary};
 use crate::heads::condition_head;
 use crate::scope::Scope;
-use crate::unread::Unread;
 use crate::value_rules::ValueRules;
 use crate::values::value;
-use spelling::Cursor;
 use rule_grammar::words::{BinaryTest, ConditionHead, Junction, UnaryTest};
+use spelling::{Cursor, Unread};
 use sqlite_items::Boxed;
 use star_model::rules::{Condition, ValueExpr};
 use std::alloc::Global;

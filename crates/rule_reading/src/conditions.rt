@@ -1,11 +1,10 @@
 // Reading a condition.
 ghost use Rattle.rule_grammar.specs.ConditionReading.{condition_at};
-ghost use Rattle.rule_reading.specs.Answers.{Answers};
+ghost use Rattle.spelling.specs.Answers.{Answers};
 
 use crate::condition_rules::ConditionRules;
 use crate::scope::Scope;
-use crate::unread::Unread;
-use spelling::Cursor;
+use spelling::{Cursor, Unread};
 use star_model::rules::Condition;
 use std::alloc::Global;
 

@@ -1,13 +1,12 @@
 // Reading the for-all clauses of alternatives.
 ghost use Rattle.std.specs.Prelude.{map};
 ghost use Rattle.rule_grammar.specs.StarReading.{for_all_at, ranges_at};
-ghost use Rattle.rule_reading.specs.Answers.{Answers};
+ghost use Rattle.spelling.specs.Answers.{Answers};
 
 use crate::names::free_name;
 use crate::ranges::range;
 use crate::scope::Scope;
-use crate::unread::Unread;
-use spelling::Cursor;
+use spelling::{Cursor, Unread};
 use star_model::lists::List;
 use star_model::rules::{ForAll, Param};
 use std::alloc::Global;

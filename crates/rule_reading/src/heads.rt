@@ -3,11 +3,11 @@ ghost use Rattle.std.specs.Prelude.{◌≡◌};
 ghost use Rattle.rule_grammar.specs.ValueReading.{value_head, requirement_head, range_head};
 ghost use Rattle.rule_grammar.specs.ConditionReading.{condition_head};
 
-use spelling::found_in;
 use rule_grammar::words::{
     BinaryHead, BinaryTest, ConditionHead, ConstantHead, Junction, RangeHead, RequirementHead,
     UnaryHead, UnaryTest, ValueHead, ValuedHead,
 };
+use spelling::found_in;
 
 const VALUES: [(&[u8], ValueHead); 17] = [
     (b"all", ValueHead::Constant(ConstantHead::All)),

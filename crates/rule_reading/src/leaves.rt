@@ -1,13 +1,12 @@
 // Reading the plans that have no plans inside: references, Glue and operators that take none.
 ghost use Rattle.rule_grammar.specs.ValueReading.{value_at};
 ghost use Rattle.rule_grammar.specs.PlanReading.{reference_at, glue_at, leaf_at};
-ghost use Rattle.rule_reading.specs.Answers.{Answers};
+ghost use Rattle.spelling.specs.Answers.{Answers};
 
 use crate::arguments::{arguments, own_arguments};
 use crate::scope::Scope;
-use crate::unread::Unread;
 use crate::values::boxed_value;
-use spelling::Cursor;
+use spelling::{Cursor, Unread};
 use star_model::lists::Name;
 use star_model::rules::{Flavour, PlanExpr};
 use std::alloc::Global;

@@ -16,11 +16,9 @@ mod plans;
 mod ranges;
 mod scope;
 mod stars;
-mod unread;
 mod value_nodes;
 mod value_rules;
 mod values;
 
 pub use formula_defs::read_formula_def;
 pub use stars::read_star;
-pub use unread::Unread;

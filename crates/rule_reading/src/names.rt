@@ -2,12 +2,11 @@
 ghost use Rattle.std.specs.Prelude.{◌≡◌};
 ghost use Rattle.star_model.specs.Names.{is_among};
 ghost use Rattle.rule_grammar.specs.RuleWords.{free_word};
-ghost use Rattle.rule_reading.specs.Answers.{Answers};
+ghost use Rattle.spelling.specs.Answers.{Answers};
 ghost use Rattle.star_model.specs.WellFormedRules.{reserved_in_rules};
 ghost use Rattle.spelling.specs.Tables.{listed};
 
-use crate::unread::Unread;
-use spelling::Cursor;
+use spelling::{Cursor, Unread};
 use star_model::lists::Name;
 use std::alloc::Global;
 

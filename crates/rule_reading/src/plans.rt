@@ -2,7 +2,7 @@
 ghost use Rattle.rule_grammar.specs.ValueReading.{value_at};
 ghost use Rattle.star_model.specs.Kinds.{inputs_of};
 ghost use Rattle.rule_grammar.specs.PlanReading.{unary_at, inputs_at, joined_at, binary_at, operator_at, plan_by, plan_at};
-ghost use Rattle.rule_reading.specs.Answers.{Answers};
+ghost use Rattle.spelling.specs.Answers.{Answers};
 ghost use Rattle.rule_reading.specs.PlanNests.{NestsPlans};
 
 use crate::arguments::more_arguments;
@@ -10,10 +10,9 @@ use crate::leaves::{glue, leaf, reference};
 use crate::names::is_reserved;
 use crate::plan_nodes::{binary_plan, unary_plan};
 use crate::scope::Scope;
-use crate::unread::Unread;
-use spelling::Cursor;
-use star_model::flavours::flavour_of;
+use spelling::{Cursor, Unread};
 use sqlite_items::Boxed;
+use star_model::flavours::flavour_of;
 use star_model::rules::{Flavour, PlanExpr};
 use std::alloc::Global;
 

@@ -1,14 +1,13 @@
 // Reading a range.
 ghost use Rattle.rule_grammar.specs.ValueReading.{range_at};
-ghost use Rattle.rule_reading.specs.Answers.{Answers};
+ghost use Rattle.spelling.specs.Answers.{Answers};
 
 use crate::heads::range_head;
 use crate::scope::Scope;
-use crate::unread::Unread;
 use crate::value_rules::ValueRules;
 use crate::values::value;
-use spelling::Cursor;
 use rule_grammar::words::RangeHead;
+use spelling::{Cursor, Unread};
 use star_model::rules::Range;
 use std::alloc::Global;
 

@@ -3,13 +3,12 @@ ghost use Rattle.std.specs.Prelude.{◌≡◌, ◌+◌, IfOk};
 ghost use Rattle.spelling.specs.Cursors.{AreTokensOf};
 ghost use Rattle.spelling.specs.Lexemes.{lexemes_of};
 ghost use Rattle.rule_grammar.specs.StarReading.{parameter_at, parameters_at, head_at, star_at, star_of};
-ghost use Rattle.rule_reading.specs.Answers.{Answers};
+ghost use Rattle.spelling.specs.Answers.{Answers};
 
 use crate::alternatives::alternatives;
 use crate::names::free_name;
-use crate::unread::Unread;
 use sb_text::Token;
-use spelling::Cursor;
+use spelling::{Cursor, Unread};
 use star_model::flavours::kind_of;
 use star_model::lists::{List, Name};
 use star_model::rules::{Param, StarDef};

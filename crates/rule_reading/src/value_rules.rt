@@ -1,15 +1,14 @@
 // Reading a value by the rules of its grammar.
 ghost use Rattle.rule_grammar.specs.ValueReading.{value_at, value_by, one_at, last_two_at, two_at, indexable_at, variable_at, bare_at, required_at, requirement_at};
-ghost use Rattle.rule_reading.specs.Answers.{Answers};
+ghost use Rattle.spelling.specs.Answers.{Answers};
 ghost use Rattle.rule_reading.specs.Nests.{NestsValues};
 
 use crate::heads::{requirement_head, value_head};
 use crate::names::is_reserved;
 use crate::scope::Scope;
-use crate::unread::Unread;
 use crate::value_nodes::{binary, constant, indexable, unary, with_temp, with_value};
-use spelling::Cursor;
 use rule_grammar::words::{RequirementHead, ValueHead};
+use spelling::{Cursor, Unread};
 use sqlite_items::Boxed;
 use star_model::lists::Name;
 use star_model::rules::ValueExpr;

@@ -1,11 +1,10 @@
 // Reading a value.
 ghost use Rattle.rule_grammar.specs.ValueReading.{value_at};
-ghost use Rattle.rule_reading.specs.Answers.{Answers};
+ghost use Rattle.spelling.specs.Answers.{Answers};
 
 use crate::scope::Scope;
-use crate::unread::Unread;
 use crate::value_rules::ValueRules;
-use spelling::Cursor;
+use spelling::{Cursor, Unread};
 use sqlite_items::Boxed;
 use star_model::rules::ValueExpr;
 use std::alloc::Global;

@@ -17,7 +17,8 @@ use Rattle.star_model.specs.declared.rules.ForAll.{ForAll}
 use Rattle.star_model.specs.declared.values.RuleValue.{RuleValue}
 use Rattle.star_check.proofs.Laws.{leads_further}
 use Rattle.exchange.proofs.Laws.{bound_step}
-use Rattle.search_places.specs.Roots.{root_of_split, root_values}
+use Rattle.search_places.specs.Roots.{root_of_split}
+use Rattle.star_value.specs.Roots.{root_values}
 use Rattle.search_places.specs.declared.search.Search.{Search}
 use Rattle.search_places.specs.Searching.{LeadsTo, IsWithin, work_at, work_in}
 use Rattle.search_places.proofs.Down.{input_is_less, left_is_less, right_is_less, call_is_less}

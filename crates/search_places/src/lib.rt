@@ -2,12 +2,10 @@
 #![tactic(auto)]
 
 mod bindings;
-mod glued;
 mod roots;
 mod search;
 pub mod theorems;
 
-pub use bindings::{meets, values, with_number, with_value};
-pub use glued::glued_goal;
-pub use roots::{root_name, root_values, star_called};
+pub use bindings::{with_number, with_value};
+pub use roots::{root_name, star_called};
 pub use search::{Part, Search};

@@ -23,7 +23,8 @@ ghost use Rattle.shared_sets.specs.declared.glued_sets.GlueRequest.{GlueRequest}
 ghost use Rattle.shared_sets.specs.declared.ref_table.StarCall.{StarCall};
 ghost use Rattle.exchange.specs.Places.{IsBestOf};
 ghost use Rattle.search_places.specs.declared.search.Search.{Search};
-ghost use Rattle.search_places.specs.Roots.{root_of_split, root_values};
+ghost use Rattle.search_places.specs.Roots.{root_of_split};
+ghost use Rattle.star_value.specs.Roots.{root_values};
 ghost use Rattle.search_places.specs.Searching.{LeadsTo, IsWithin, work_at, work_in};
 ghost use Rattle.search_places.specs.Shared.{IsGlued, HoldsReferences, HoldsGlued};
 

@@ -7,3 +7,4 @@ pub use Rattle.spelling.proofs.Formed.{formed_statements, layout_again}
 pub use Rattle.spelling.proofs.Commented.{layout_behind_comment}
 pub use Rattle.spelling.proofs.ReadingLaws.{the_word_reads, the_symbol_reads, a_word_reads, a_number_reads, a_text_reads, then_reads}
 pub use Rattle.spelling.proofs.Cut.{own_tokens, own_parts, parts_said, parts_hold, parts_few}
+pub use Rattle.spelling.proofs.Shallow.{no_deep_fault}

@@ -14,3 +14,4 @@ mod Doubling
 mod Looking
 mod PrintedLists
 mod Cut
+mod Shallow

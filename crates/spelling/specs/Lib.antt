@@ -17,3 +17,5 @@ pub mod SeriesLoopCases
 pub mod Joining
 pub mod FormedLexemes
 pub mod SpelledSeries
+pub mod Shallow
+pub mod Answers

@@ -8,6 +8,7 @@ mod lookup;
 mod pairs;
 mod parts;
 pub mod theorems;
+mod unread;
 mod writer;
 
 pub use cursor::{Cursor, number_of, text_bytes};
@@ -15,4 +16,5 @@ pub use ending::Ending;
 pub use lookup::found_in;
 pub use pairs::paired;
 pub use parts::{Printer, print_behind, print_call, print_joined, print_run};
+pub use unread::Unread;
 pub use writer::Writer;

@@ -6,10 +6,11 @@ ghost use Rattle.std.specs.List.{AllPass, flat_map};
 ghost use Rattle.sb_text.specs.Front.{in_comment};
 ghost use Rattle.sb_text.specs.Tokens.{lexed};
 ghost use Rattle.sb_text.specs.Statements.{parts};
-ghost use Rattle.sb_text.specs.Refusal.{AreTokens};
+ghost use Rattle.sb_text.specs.Refusal.{AreTokens, fault_of};
 ghost use Rattle.spelling.specs.Lexemes.{Lexeme, Word, Number, Text, Symbol, IsStatements, lexemes_of, statements_in, joined_by};
 ghost use Rattle.star_model.specs.Every.{Every};
 ghost use Rattle.spelling.specs.Cursors.{AreTokensOf, part_said, IsPartOf};
+ghost use Rattle.spelling.specs.Shallow.{IsShallow};
 ghost use Rattle.spelling.specs.Layout.{spaced, line, layout, commented, IsLexeme};
 ghost use Rattle.spelling.specs.Reading.{the_word, the_symbol, a_word, a_number, a_text};
 ghost use Rattle.spelling.specs.Writing.{Written, whole, put, puts, ended, lines};
@@ -83,4 +84,9 @@ pub fn statements_are_parts()
 pub fn texts_have_their_tokens()
     ensures tokens { (source : List ℕ) → AreTokensOf source (lexed source).0 }
     ensures parts { (source : List ℕ) → Every (IsPartOf source) (parts (lexed source).0) }
+{}
+
+/// A text of short statements that open few brackets has no fault of its tokens.
+pub fn shallow_statements_have_no_fault()
+    ensures { (text : List ℕ) (statements : List (List Lexeme)) → IsStatements text statements → Every IsShallow statements → fault_of text ≡ None }
 {}

@@ -18,7 +18,8 @@ use Rattle.plan_offers.specs.declared.target.Target.{Target}
 use Rattle.plan_offers.specs.Targets.{target_of, meets_target}
 use Rattle.search_places.specs.declared.search.Search.{Search}
 use Rattle.search_places.specs.Searching.{LeadsTo}
-use Rattle.search_places.specs.Roots.{root_of_split, root_values}
+use Rattle.search_places.specs.Roots.{root_of_split}
+use Rattle.star_value.specs.Roots.{root_values}
 use Rattle.search_places.proofs.Laws.{root_is_called, to_root}
 
 -- what the members of a root's set make that meet the target

@@ -11,11 +11,11 @@ ghost use Rattle.search_places.specs.Shared.{IsGlued, HoldsShared};
 use dominance_prune::PlanSet;
 use glue::glue;
 use lolepop::Entry;
-use search_places::{Search, glued_goal};
+use search_places::Search;
 use shared_sets::{GlueRequest, SharedSet, Tables};
 use star_model::lists::Name;
 use star_model::rules::ValueExpr;
-use star_value::Env;
+use star_value::{Env, glued_goal};
 use std::alloc::{AllocError, Global};
 
 /// The plans that Glue makes of the set that the memo has for its goal, which it makes once for all places that ask for the same.

@@ -14,12 +14,12 @@ use crate::operators::{over_nothing, over_one, over_two};
 use dominance_prune::PlanSet;
 use lolepop::Entry;
 use plan_offers::add_references;
-use search_places::{Part, Search, meets, values, with_number, with_value};
+use search_places::{Part, Search, with_number, with_value};
 use shared_sets::{SharedSet, Tables};
 use star_model::derivations::ForAllValues;
 use star_model::lists::Name;
 use star_model::rules::{ForAll, PlanExpr};
-use star_value::{Env, numbered};
+use star_value::{Env, meets, numbered, values};
 use std::alloc::{AllocError, Global};
 
 /// The best plans of an expression under bindings.

@@ -14,9 +14,10 @@ use crate::bodies::plans_of_call;
 use dominance_prune::PlanSet;
 use lolepop::Entry;
 use plan_offers::{Target, add_goals};
-use search_places::{Search, root_name, root_values};
+use search_places::{Search, root_name};
 use shared_sets::{RefTable, Tables};
 use star_model::sets::QuantSet;
+use star_value::root_values;
 use std::alloc::{AllocError, Global};
 
 /// The best plans of the search's goal: of all that is derived for it, what nothing else may stand in place of. What the tables hold isn't

@@ -8,8 +8,8 @@ use Rattle.rule_grammar.specs.Rules as rules
 use Rattle.rule_grammar.specs.RuleLimits.{SpellsNumbered, SpellsDefinition}
 use Rattle.star_syntax.specs.declared.definition.Definition.{Definition}
 use Rattle.star_syntax.specs.declared.definition.Definition.TheVariants.{Formula, Star}
-use Rattle.rule_reading.specs.declared.unread.Unread.{Unread}
-use Rattle.rule_reading.specs.declared.unread.Unread.TheVariants.{Strange, Memory}
+use Rattle.spelling.specs.declared.unread.Unread.{Unread}
+use Rattle.spelling.specs.declared.unread.Unread.TheVariants.{Strange, Memory}
 
 abbrev pub defined : Definition → rules.Definition
 defined (Formula d) = OfFormula d

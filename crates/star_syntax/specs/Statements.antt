@@ -9,8 +9,8 @@ use Rattle.spelling.specs.Firsts.{NoneHas}
 use Rattle.spelling.specs.Syntax.{IsUnderstood, IsStrangeAt}
 use Rattle.rule_grammar.specs.Rules.{Definition, OfFormula, OfStar, SpellsDefinitions}
 use Rattle.rule_grammar.specs.RuleLimits.{RuleStatement, SpellsDefinition, SpellsNumbered, AreSpelled, SaysRules, IsBeyond, count_of_stars}
-use Rattle.rule_reading.specs.declared.unread.Unread.{Unread}
-use Rattle.rule_reading.specs.declared.unread.Unread.TheVariants.{Strange, Memory}
+use Rattle.spelling.specs.declared.unread.Unread.{Unread}
+use Rattle.spelling.specs.declared.unread.Unread.TheVariants.{Strange, Memory}
 use Rattle.star_syntax.specs.declared.statements.RulesSoFar.{RulesSoFar}
 use Rattle.star_syntax.specs.Faults.{IsLimitAt}
 use Rattle.star_syntax.specs.LimitTests.{limit_beyond}

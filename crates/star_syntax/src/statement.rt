@@ -4,8 +4,9 @@ ghost use Rattle.spelling.specs.Cursors.{AreTokensOf, part_said};
 ghost use Rattle.star_syntax.specs.Definitions.{DefinitionRead};
 
 use crate::definition::Definition;
-use rule_reading::{Unread, read_formula_def, read_star};
+use rule_reading::{read_formula_def, read_star};
 use sb_text::Statement;
+use spelling::Unread;
 use std::alloc::Global;
 
 /// What the statement with this number defines, from its tokens.

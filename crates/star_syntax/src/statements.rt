@@ -10,8 +10,8 @@ ghost use Rattle.star_syntax.specs.Statements.{with_definition, StatementRead, S
 use crate::definition::Definition;
 use crate::limits::limit_beyond;
 use crate::statement::read_definition;
-use rule_reading::Unread;
 use sb_text::{Statement, Token, statements};
+use spelling::Unread;
 use star_model::faults::{LimitKind, RuleFault};
 use star_model::lists::List;
 use star_model::rules::RuleFile;

@@ -1,1 +1,2 @@
 pub mod RangeNumbers
+pub mod Roots

@@ -7,8 +7,8 @@ ghost use Rattle.star_model.specs.Meaning.{meaning, as_stream, as_preds};
 ghost use Rattle.star_model.specs.WellFormed.{WellFormedQuery};
 
 use crate::env::Env;
+use crate::meaning::value;
 use crate::readings::{cols_of, index_of, preds_of, site_of, stream_of};
-use crate::values::value;
 use star_model::plans::Op;
 use star_model::query::Query;
 use star_model::rules::{Flavour, ValueExpr};

@@ -5,8 +5,8 @@ ghost use Rattle.star_model.specs.Meaning.{holds, is_empty_value, is_part, same_
 ghost use Rattle.star_model.specs.WellFormed.{WellFormedQuery};
 
 use crate::env::Env;
+use crate::meaning::value;
 use crate::readings::{cols_of, preds_of, quants_of};
-use crate::values::value;
 use star_model::query::Query;
 use star_model::rules::Condition;
 use star_model::values::RuleValue;

@@ -6,9 +6,9 @@ ghost use Rattle.star_model.specs.WellFormed.{WellFormedQuery};
 ghost use Rattle.star_value.specs.RangeNumbers.{is_on_table_of, passes, end_of, member_at, members_from, numbered_from, NumberFrom};
 
 use crate::env::Env;
+use crate::meaning::value;
 use crate::readings::{preds_of, quants_of};
 use crate::streams::tables_of;
-use crate::values::value;
 use query_facts::{is_index_of, only_member};
 use star_model::columns::Site;
 use star_model::query::Query;

@@ -10,7 +10,5 @@ pub mod Derived
 pub mod Says
 pub mod Cases
 pub mod OneFile
-mod LimitsKept
-mod TinyAccepted
-mod TinyRules
-mod Witness
+mod DoneSays
+pub mod Laws

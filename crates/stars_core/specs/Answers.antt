@@ -138,7 +138,3 @@ calls_of words (Some command) = length (requests_of command words)
 abbrev pub DoneSays : CommandLine → SinkState → SinkState → Type 0
 DoneSays words out out' = OfCommand words (λ command.
     (given : List Given) × (text : List ℕ) × IsAnswer command given endings.Done text × Adds out.taken text out'.taken)
-
--- there are files of which the completeness of `plan` speaks
-abbrev pub SomeTold : Type 0
-SomeTold = (words : CommandLine) × (shelf : ShelfState) × (given : List Given) × (saying : Saying commands.Plan) × AllTold words shelf commands.Plan given saying

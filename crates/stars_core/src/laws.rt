@@ -1,12 +1,16 @@
 // Laws of the definitions.
-ghost use Rattle.std.specs.Prelude.{◌≡◌, List};
+ghost use Rattle.std.specs.Prelude.{◌≡◌, ℕ, List, []};
 ghost use Rattle.sb_outside.specs.Shelf.{ShelfState};
 ghost use Rattle.sb_outside.specs.Sink.{SinkState};
+ghost use Rattle.star_model.specs.declared.catalogue.Catalogue.{Catalogue as CatalogueTree};
+ghost use Rattle.star_model.specs.declared.query.Query.{Query as QueryTree};
+ghost use Rattle.star_model.specs.declared.rules.RuleFile.{RuleFile};
 ghost use Rattle.stars_core.specs.CommandLine.{CommandLine};
 ghost use Rattle.stars_core.specs.Given.{Given};
-ghost use Rattle.stars_core.specs.Faults.{Verdict, Judged};
-ghost use Rattle.stars_core.specs.Saying.{Saying, Says};
-ghost use Rattle.stars_core.specs.Answers.{Answered, DoneSays, SomeTold};
+ghost use Rattle.stars_core.specs.Faults.{Verdict, Judged, PassAll};
+ghost use Rattle.stars_core.specs.Judging.{RulesPass, CataloguePasses, QueryPasses};
+ghost use Rattle.stars_core.specs.Saying.{Saying, Says, SaysCase, three};
+ghost use Rattle.stars_core.specs.Answers.{Answered, DoneSays};
 
 use crate::{Command, Status};
 
@@ -25,7 +29,10 @@ pub fn done_says()
     ensures { (words : CommandLine) (shelf shelf' : ShelfState) (out out' err err' : SinkState) → Answered Status.Done words shelf shelf' out out' err err' → DoneSays words out out' }
 {}
 
-/// There are files of which the completeness of `plan` speaks.
-pub fn some_plan_is_told()
-    ensures { SomeTold }
+/// Three texts that have no fault are accepted, and say the rules and the query that they are judged to spell.
+pub fn texts_without_fault_say()
+    ensures pass { (r c q : List ℕ) (rules : RuleFile) (catalogue : CatalogueTree) (query : QueryTree) → RulesPass r rules → CataloguePasses c catalogue → QueryPasses catalogue q query
+        → PassAll [] (three r c q) }
+    ensures say { (r c q : List ℕ) (rules : RuleFile) (catalogue : CatalogueTree) (query : QueryTree) → RulesPass r rules → CataloguePasses c catalogue → QueryPasses catalogue q query
+        → SaysCase r c q rules query }
 {}

@@ -25,7 +25,7 @@ pub use case::Case;
 pub use command::{Command, find_command};
 pub use frontier::frontier_query;
 pub use judging::{judge_catalogue, judge_derivation, judge_query, judge_rules};
-pub use laws::{done_says, one_reading, one_verdict, some_plan_is_told};
+pub use laws::{done_says, one_reading, one_verdict, texts_without_fault_say};
 pub use plan::plan_query;
 pub use refusal::{Refusal, TextKind};
 pub use rules_text::print_checked;

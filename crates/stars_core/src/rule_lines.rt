@@ -4,8 +4,8 @@ ghost use Rattle.stars_core.specs.Lines.{arity_line, kind_line, cycle_line, glue
 
 use crate::TextKind;
 use crate::lines::{lexical_line, limit_line, statement_line, twice_line, unknown_line};
-use star_model::flavours::{flavour_word, which_word};
 use star_model::faults::{Root, RuleFault};
+use star_model::flavours::{flavour_word, which_word};
 use star_model::num::Num;
 use star_model::rules::{Flavour, Which};
 use std::alloc::{AllocError, Global};

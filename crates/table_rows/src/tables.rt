@@ -1,4 +1,4 @@
-// The tables that the files are read as.
+// The tables that files are read as.
 ghost use Rattle.std.specs.Prelude.{◌<◌, length, IfOk, IfSome};
 ghost use Rattle.star_model.specs.WellFormed.{WellFormedCatalogue};
 
@@ -6,19 +6,17 @@ use catalogue::read_catalogue;
 use star_model::catalogue::Catalogue;
 use std::alloc::{AllocError, Global};
 
-const TABLES: &str = "site s cpu 1 net 1;
-table pair at s rows 1 pages 1 file 'pair.csv' (a text width 10 distinct 1, b text width 10 distinct 1);
-table entry at s rows 1 pages 1 file 'entry.csv' (k text width 10 distinct 1, n int width 8 distinct 1);
-table number at s rows 1 pages 1 file 'number.csv' (n int width 8 distinct 1);
-table word at s rows 1 pages 1 file 'word.csv' (k text width 8 distinct 1);
-table emp at s rows 1 pages 1 file 'emp.csv' (id int width 8 distinct 1, dno int width 8 distinct 1, name text width 20 distinct 1);
-table numbers at s rows 1 pages 1 file 'numbers.csv' (a int width 8 distinct 1, b int width 8 distinct 1);";
+// The greatest length of a text in bytes.
+const LONGEST: usize = 1_048_576;
 
-/// The catalogue of the tables.
-pub fn catalogue_of_tables(alloc: Global) -> Result<Catalogue, AllocError>
+/// The catalogue of the tables. No row has a text that says none.
+pub fn catalogue_of(alloc: Global, text: &str) -> Result<Catalogue, AllocError>
     ensures { IfOk result (λ catalogue. WellFormedCatalogue catalogue) }
 {
-    match read_catalogue(alloc, TABLES.as_bytes()) {
+    if text.len() > LONGEST {
+        return Err(AllocError);
+    }
+    match read_catalogue(alloc, text.as_bytes()) {
         Ok(catalogue) => Ok(catalogue),
         Err(_) => Err(AllocError),
     }

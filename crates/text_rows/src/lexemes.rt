@@ -1,34 +1,9 @@
 // The tokens of texts.
-use crate::expanded::expanded;
-use crate::told::{LONGEST, parts_of, push_difference};
 use sb_text::{Token, tokens};
 use std::alloc::{AllocError, Global};
-use std::test::Fail;
 
-const TOKENS: &str = " => 
- \t\r¶ => 
-# a comment without line end => 
-a#b¶c => Word a¶Word c¶
-a#b\rc => Word a¶
-_a1 A9z => Word _a1¶Word A9z¶
-12a => Number 12¶Word a¶
-0000000000000000001 => Number 0000000000000000001¶
-00000000000000000001 => Lexical(0)
-<= => Symbol <=¶
-<>= => Symbol <>¶Symbol =¶
->=< => Symbol >=¶Symbol <¶
-<<== => Symbol <¶Symbol <=¶Symbol =¶
-'' => Text ''¶
-'''' => Text ''''¶
-'a''b' => Text 'a''b'¶
-'a' 'b' => Text 'a'¶Text 'b'¶
-'a''b => Lexical(3)
-' => Lexical(0)
-''' => Lexical(2)
-a '# ' b => Word a¶Text '# '¶Word b¶
-()[]{},;.|=<>+-*/ => Symbol (¶Symbol )¶Symbol [¶Symbol ]¶Symbol {¶Symbol }¶Symbol ,¶Symbol ;¶Symbol .¶Symbol |¶Symbol =¶Symbol <>¶Symbol +¶Symbol -¶Symbol *¶Symbol /¶
-a:b => Lexical(1)
-é => Lexical(0)";
+// The greatest length of a text in bytes.
+const LONGEST: usize = 1_048_576;
 
 // The kinds and the texts of tokens.
 fn listed(alloc: Global, text: &str, tokens: &[Token]) -> Result<String, AllocError> {
@@ -44,8 +19,8 @@ fn listed(alloc: Global, text: &str, tokens: &[Token]) -> Result<String, AllocEr
     Ok(told)
 }
 
-// The tokens of a text, or its fault.
-fn told_tokens(alloc: Global, text: &str) -> Result<String, AllocError> {
+/// The tokens of a text, or its fault.
+pub fn told(alloc: Global, text: &str) -> Result<String, AllocError> {
     if text.len() > LONGEST {
         return Err(AllocError);
     }
@@ -53,19 +28,4 @@ fn told_tokens(alloc: Global, text: &str) -> Result<String, AllocError> {
         Ok(list) => listed(alloc, text, list.as_slice()),
         Err(fault) => format!(in alloc; "{fault:?}"),
     }
-}
-
-#[test]
-fn takes_the_longest_token(rt: HostRuntime) -> Result<(), Fail> {
-    let alloc = rt.alloc();
-    let mut differing = String::new(alloc);
-    for row in TOKENS.lines() {
-        let (text, wanted) = parts_of(row);
-        let text = expanded(alloc, text)?;
-        let wanted = expanded(alloc, wanted)?;
-        let told = told_tokens(alloc, text.as_str())?;
-        push_difference(&mut differing, row, told.as_str(), wanted.as_str())?;
-    }
-    assert_eq!(rt; differing.as_str(), "");
-    Ok(())
 }

@@ -1,7 +1,8 @@
 use Rattle.std.proofs.Common.{◌≡◌, ◌∙◌, sym, subst, Some}
 use Rattle.star_model.specs.Expected.{Expected, Call, root_call}
 use Rattle.exchange.specs.Asking.{AsksFrom}
-use Rattle.search_places.specs.Roots.{root_of_split, root_values}
+use Rattle.search_places.specs.Roots.{root_of_split}
+use Rattle.star_value.specs.Roots.{root_values}
 use Rattle.search_places.specs.Memos.{FirstMissing}
 use Rattle.search_places.specs.Searching.{LeadsTo}
 use Rattle.search_places.proofs.Laws.{to_root, root_is_called}

@@ -6,7 +6,7 @@ use Rattle.spelling.specs.Reading.{a_word}
 use Rattle.spelling.specs.SeriesReadingCases.{begun, stopped}
 use Rattle.spelling.specs.SeriesLoopCases.{ends, goes}
 use Rattle.spelling.proofs.Laws.{the_symbol_reads}
-use Rattle.catalogue.specs.declared.statement.Unread.TheVariants.{Strange}
+use Rattle.spelling.specs.declared.unread.Unread.TheVariants.{Strange}
 use Rattle.catalogue.specs.Reading.{items_at}
 use Rattle.catalogue.proofs.Spelled.{name_spelled}
 use Rattle.catalogue.proofs.statement.names.Goals as goal

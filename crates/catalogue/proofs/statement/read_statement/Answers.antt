@@ -1,6 +1,7 @@
 use Rattle.std.proofs.Common.{Err, ◌∙◌, sym, ap, subst, rules}
 use Rattle.std.proofs.lemmas.Result.{err_from_is_err_and}
-use Rattle.catalogue.specs.Reading.{Answers, statement_at}
+use Rattle.catalogue.specs.Reading.{statement_at}
+use Rattle.spelling.specs.Answers.{Answers}
 use Rattle.sb_text.specs.Statements.{part_of}
 use Rattle.spelling.specs.Cursors.{part_said}
 use Rattle.catalogue.proofs.Understood.{all_read, not_ended, error_told, more_left}

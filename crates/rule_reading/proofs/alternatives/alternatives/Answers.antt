@@ -3,7 +3,8 @@ use Rattle.spelling.specs.Lexemes.{bar}
 use Rattle.rule_grammar.specs.Rules.{alternative_lexemes}
 use Rattle.star_model.specs.WellFormedRules.{IsAlternative}
 use Rattle.rule_grammar.specs.StarReading.{alternatives_at}
-use Rattle.rule_reading.proofs.Loops.{stops, ends, goes, falls}
+use Rattle.spelling.specs.SeriesLoopCases.{ends, goes, falls}
+use Rattle.rule_reading.proofs.Loops.{stops}
 use Rattle.rule_reading.proofs.Parts.{alternative_is, bars}
 use Rattle.rule_reading.proofs.alternatives.alternatives.Goals as goal
 

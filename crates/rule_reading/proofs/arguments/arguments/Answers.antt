@@ -1,6 +1,7 @@
 use Rattle.std.proofs.lemmas.Result.{err_from_is_err_and}
 use Rattle.rule_grammar.specs.PlanReading.{arguments_at}
-use Rattle.rule_reading.proofs.Loops.{stops, ends, goes, falls}
+use Rattle.spelling.specs.SeriesLoopCases.{ends, goes, falls}
+use Rattle.rule_reading.proofs.Loops.{stops}
 use Rattle.rule_reading.proofs.Parts.{value_is, commas}
 use Rattle.rule_reading.proofs.arguments.arguments.Goals as goal
 

@@ -3,7 +3,8 @@ use Rattle.spelling.specs.Lexemes.{comma}
 use Rattle.star_model.specs.WellFormedRules.{IsName}
 use Rattle.rule_grammar.specs.Rules.{parameter_lexemes}
 use Rattle.rule_grammar.specs.StarReading.{parameters_at}
-use Rattle.rule_reading.proofs.Loops.{stops, ends, goes, falls}
+use Rattle.spelling.specs.SeriesLoopCases.{ends, goes, falls}
+use Rattle.rule_reading.proofs.Loops.{stops}
 use Rattle.rule_reading.proofs.Parts.{parameter_is, commas}
 use Rattle.rule_reading.proofs.stars.parameters.Goals as goal
 

@@ -1,0 +1,4 @@
+mod LimitsKept
+mod TinyAccepted
+mod TinyRules
+mod Witness
