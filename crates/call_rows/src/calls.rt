@@ -3,6 +3,7 @@ ghost use Rattle.star_model.specs.WellFormed.{WellFormedQuery};
 
 use crate::asked::told_closed;
 use crate::expanded::{told_again, told_goals, told_moved};
+use crate::kept::told_kept;
 use crate::sets::{told_glue, told_offers, told_unshared};
 use star_check::CheckedRules;
 use star_model::query::Query;
@@ -25,6 +26,8 @@ pub fn told(
         told_closed(alloc, rules, query)
     } else if call == "put" {
         told_moved(alloc, rules, query)
+    } else if call == "keep" {
+        told_kept(alloc, rules, query)
     } else if call == "unshare" {
         told_unshared(alloc, rules, query)
     } else if call == "glue" {

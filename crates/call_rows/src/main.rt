@@ -8,6 +8,7 @@ mod asked;
 mod calls;
 mod expanded;
 mod goals;
+mod kept;
 mod sets;
 mod texts;
 

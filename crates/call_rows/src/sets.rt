@@ -27,8 +27,8 @@ pub fn costs_of(alloc: Global, plans: &PlanSet<Entry>) -> Result<Vec<(u64, u64)>
     Ok(costs)
 }
 
-// The set of the query's goal.
-fn own_plans(
+/// The set of the query's goal.
+pub fn own_plans(
     alloc: Global,
     rules: &CheckedRules,
     query: &Query,
@@ -43,8 +43,8 @@ fn own_plans(
     }
 }
 
-// The costs of the members, a line for each.
-fn lines_of(alloc: Global, plans: &PlanSet<Entry>) -> Result<String, AllocError> {
+/// The costs of the members, a line for each.
+pub fn lines_of(alloc: Global, plans: &PlanSet<Entry>) -> Result<String, AllocError> {
     let mut lines = String::new(alloc);
     for (cost, rescan) in costs_of(alloc, plans)?.as_slice() {
         lines.push_str(format!(in alloc; "{cost} {rescan}\n")?.as_str())?;

@@ -2,4 +2,5 @@ mod Finding
 mod Down
 mod Within
 mod Sound
+mod SharedLaws
 pub mod Laws

@@ -1,3 +1,4 @@
 pub mod Memos
 pub mod Roots
 pub mod Searching
+pub mod Shared

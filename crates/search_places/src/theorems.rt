@@ -6,6 +6,7 @@ ghost use Rattle.star_model.specs.Expected.{Call, Expression, may_split, root_ca
 ghost use Rattle.star_model.specs.Goals.{IsGoal};
 ghost use Rattle.star_model.specs.Meaning.{numbers_of, member_at};
 ghost use Rattle.star_model.specs.Stars.{star_named, alternative_of};
+ghost use Rattle.star_model.specs.declared.query.Query.{Query};
 ghost use Rattle.star_model.specs.declared.rules.Alternative.{Alternative};
 ghost use Rattle.star_model.specs.declared.rules.Flavour.{Flavour};
 ghost use Rattle.star_model.specs.declared.rules.ForAll.{ForAll};
@@ -16,10 +17,16 @@ ghost use Rattle.star_model.specs.declared.rules.StarDef.{StarDef};
 ghost use Rattle.star_model.specs.declared.rules.ValueExpr.{ValueExpr};
 ghost use Rattle.star_model.specs.declared.values.RuleValue.{RuleValue};
 ghost use Rattle.star_model.specs.WellFormedRules.{WellFormedRules};
+ghost use Rattle.lolepop.specs.Derived.{DerivedPlan};
+ghost use Rattle.shared_sets.specs.Tables.{kept_for, glued_for};
+ghost use Rattle.shared_sets.specs.declared.glued_sets.GlueRequest.{GlueRequest};
+ghost use Rattle.shared_sets.specs.declared.ref_table.StarCall.{StarCall};
+ghost use Rattle.exchange.specs.Places.{IsBestOf};
 ghost use Rattle.search_places.specs.declared.search.Search.{Search};
 ghost use Rattle.search_places.specs.Roots.{root_of_split};
 ghost use Rattle.star_value.specs.Roots.{root_values};
 ghost use Rattle.search_places.specs.Searching.{LeadsTo, IsWithin, work_at, work_in};
+ghost use Rattle.search_places.specs.Shared.{IsGlued, HoldsReferences, HoldsGlued};
 
 /// A place to which the goal leads is left for one with less work, to which the goal leads too: an input of an expression, the STAR to
 /// which a reference refers, a body of a STAR.
@@ -58,4 +65,19 @@ pub fn places_are_small()
     ensures alternatives { (rules : RuleFile) (star : Seq ℕ) (d : StarDef) → WellFormedRules rules → star_named rules star ≡ Some d → length d.alternatives ≤ 16 }
     ensures arguments { (s : Search) (e : PlanExpr) (star : Seq ℕ) (args : Seq ValueExpr) (b : Seq RuleValue) → WellFormedRules s.rules.now → IsAccepted s.rules.now
         → IsGoal s.query.now s.goal.tables s.goal.pushed → e ≡ made.Reference star args → LeadsTo s (Expression e b) → length args ≤ 8 }
+{}
+
+/// Tables begin with nothing, which is no wrong set. What is found in tables of right sets is right, and they stay so when a right set is
+/// added.
+pub fn tables_stay_right()
+    ensures no_references { (q : Query) (rules : RuleFile) (table : Seq (StarCall × Seq DerivedPlan)) → table ≡ [] → HoldsReferences q rules table }
+    ensures none_glued { (q : Query) (rules : RuleFile) (table : Seq (GlueRequest × Seq DerivedPlan)) → table ≡ [] → HoldsGlued q rules table }
+    ensures found { (q : Query) (rules : RuleFile) (table : Seq (StarCall × Seq DerivedPlan)) (star : Seq ℕ) (env : Seq RuleValue) (plans : Seq DerivedPlan) → HoldsReferences q rules table
+        → Some plans ≡ kept_for table star env → IsBestOf q rules (Call star env) plans }
+    ensures found_glued { (q : Query) (rules : RuleFile) (table : Seq (GlueRequest × Seq DerivedPlan)) (r : GlueRequest) (plans : Seq DerivedPlan) → HoldsGlued q rules table
+        → Some plans ≡ glued_for table r → IsGlued q rules r plans }
+    ensures kept { (q : Query) (rules : RuleFile) (old new : Seq (StarCall × Seq DerivedPlan)) (star : Seq ℕ) (env : Seq RuleValue) (plans : Seq DerivedPlan) → HoldsReferences q rules old
+        → IsBestOf q rules (Call star env) plans → new ≡ old ++ (record { star = star; env = env }, plans) ∷ [] → HoldsReferences q rules new }
+    ensures put { (q : Query) (rules : RuleFile) (old new : Seq (GlueRequest × Seq DerivedPlan)) (r : GlueRequest) (plans : Seq DerivedPlan) → HoldsGlued q rules old → IsGlued q rules r plans
+        → new ≡ old ++ (r, plans) ∷ [] → HoldsGlued q rules new }
 {}

@@ -5,7 +5,7 @@ use Rattle.std.specs.declared.alloc.AllocError.{AllocError}
 use Rattle.star_model.specs.AskedGoals.{Asks}
 use Rattle.star_model.specs.Costs.{costs_of}
 use Rattle.star_model.specs.Exchange.{CostsPass}
-use Rattle.star_model.specs.Expected.{ForGoal, Expression, goal_of, glue_of}
+use Rattle.star_model.specs.Expected.{ForGoal, Expression, goal_of}
 use Rattle.star_model.specs.Meaning.{meaning, as_stream, as_preds}
 use Rattle.star_model.specs.declared.costs.CostEntry.{CostEntry}
 use Rattle.star_model.specs.declared.plans.Goal.{Goal}
@@ -18,9 +18,32 @@ use Rattle.lolepop.specs.Derived.{DerivedPlan, is_better_plan, GluesTo, AllFit}
 use Rattle.table_set_memo.specs.Memos.{plans_at, IsHeld}
 use Rattle.exchange.specs.Places.{IsBestOf}
 use Rattle.exchange.proofs.Laws.{best_fit, glue_exchange}
+use Rattle.shared_sets.specs.declared.glued_sets.GlueRequest.{GlueRequest}
 use Rattle.search_places.specs.declared.search.Search.{Search}
 use Rattle.search_places.specs.Memos.{HoldsFrontiers, HoldsAsked}
 use Rattle.search_places.specs.Searching.{IsOpen, LeadsTo}
+use Rattle.search_places.specs.Shared.{IsGlued}
+
+-- a request of Glue, of the set that the memo has for its goal
+module _ (s : Search) (r : GlueRequest) where
+  pub glue_is_there : IsHeld s.memo.now r.goal → None ≡ plans_at s.memo.now r.goal → ⊥
+  glue_is_there held none = false≢true (subst (λ (o : Option (List DerivedPlan)). IsSome o) (sym none) held)
+
+  best_there : IsOpen s → (plans : List DerivedPlan) → Some plans ≡ plans_at s.memo.now r.goal → IsBestOf s.query.now s.rules.now (ForGoal r.goal.tables r.goal.pushed) plans
+  unfolding HoldsFrontiers
+  best_there ready plans at = ready.frontiers r.goal plans (sym at)
+
+  pub fit_there : IsOpen s → (plans : List DerivedPlan) → Some plans ≡ plans_at s.memo.now r.goal → (costs : List CostEntry) → costs ≡ costs_of s.rules.now → AllFit s.query.now costs plans
+  fit_there ready plans at costs are =
+      subst (λ (cs : List CostEntry). AllFit s.query.now cs plans) (sym are) (best_fit s.query.now s.rules.now (ForGoal r.goal.tables r.goal.pushed) plans (best_there ready plans at))
+
+  pub glue_done : CostsPass (costs_of s.rules.now) → IsOpen s → (plans : List DerivedPlan) → Some plans ≡ plans_at s.memo.now r.goal → (costs : List CostEntry) → costs ≡ costs_of s.rules.now
+      → (result : Result (List DerivedPlan) AllocError) → IfOk result (IsFrontier is_better_plan (From plans (GluesTo s.query.now costs r.require))) → IfOk result (IsGlued s.query.now s.rules.now r)
+  glue_done pass ready plans at costs are (Err e) h = h
+  glue_done pass ready plans at costs are (Ok set) h = λ x glues. record { gathered = glue_exchange s.query.now s.rules.now pass x (ForGoal r.goal.tables r.goal.pushed) r.require glues plans [] set (best_there ready plans at) made_of; apart = h.apart }
+    where
+      made_of : Gathers is_better_plan [] set (From plans (GluesTo s.query.now (costs_of s.rules.now) r.require))
+      made_of = subst (λ (cs : List CostEntry). Gathers is_better_plan [] set (From plans (GluesTo s.query.now cs r.require))) are h.gathered
 
 -- a Glue of this stream t and these predicates p, whose goal is g
 module _ (s : Search) (stream preds : ValueExpr) (b : List RuleValue) (t : StreamValue) (p : ℕ) (g : Goal) (is_stream : t ≡ as_stream (meaning s.query.now b stream))
@@ -35,26 +58,6 @@ module _ (s : Search) (stream preds : ValueExpr) (b : List RuleValue) (t : Strea
   unfolding HoldsAsked
   glue_is_held ready leads = ready.asked g (Asks.by_glue s.goal.tables s.goal.pushed g.tables g.pushed stream preds b leads own_goal)
 
-  pub glue_is_there : IsOpen s → LeadsTo s (Expression (made.Glue stream preds) b) → None ≡ plans_at s.memo.now g → ⊥
-  glue_is_there ready leads none = false≢true (subst (λ (o : Option (List DerivedPlan)). IsSome o) (sym none) (glue_is_held ready leads))
-
-  best_there : IsOpen s → (plans : List DerivedPlan) → Some plans ≡ plans_at s.memo.now g → IsBestOf s.query.now s.rules.now (ForGoal g.tables g.pushed) plans
-  unfolding HoldsFrontiers
-  best_there ready plans at = ready.frontiers g plans (sym at)
-
-  pub fit_there : IsOpen s → (plans : List DerivedPlan) → Some plans ≡ plans_at s.memo.now g → (costs : List CostEntry) → costs ≡ costs_of s.rules.now → AllFit s.query.now costs plans
-  fit_there ready plans at costs are =
-      subst (λ (cs : List CostEntry). AllFit s.query.now cs plans) (sym are) (best_fit s.query.now s.rules.now (ForGoal g.tables g.pushed) plans (best_there ready plans at))
-
-  pub glue_done : CostsPass (costs_of s.rules.now) → IsOpen s → (plans : List DerivedPlan) → Some plans ≡ plans_at s.memo.now g → (costs : List CostEntry) → costs ≡ costs_of s.rules.now
-      → (r : Result (List DerivedPlan) AllocError) → IfOk r (IsFrontier is_better_plan (From plans (GluesTo s.query.now costs t.require)))
-      → IfOk r (IsBestOf s.query.now s.rules.now (Expression (made.Glue stream preds) b))
-  glue_done pass ready plans at costs are (Err x) h = h
-  glue_done pass ready plans at costs are (Ok set) h =
-      let glues : glue_of s.query.now (Expression (made.Glue stream preds) b) ≡ Some (t.require, ForGoal g.tables g.pushed) = (λ i. Some ((sym is_stream i).require, own_goal i)) in
-      let made_of : Gathers is_better_plan [] set (From plans (GluesTo s.query.now (costs_of s.rules.now) t.require)) =
-      subst (λ (cs : List CostEntry). Gathers is_better_plan [] set (From plans (GluesTo s.query.now cs t.require))) are h.gathered in
-      record {
-        gathered = glue_exchange s.query.now s.rules.now pass (Expression (made.Glue stream preds) b) (ForGoal g.tables g.pushed) t.require glues plans [] set (best_there ready plans at) made_of;
-        apart = h.apart;
-      }
+  -- what Glue makes for its request is best where it stands
+  pub glued_here : (plans : List DerivedPlan) → IsGlued s.query.now s.rules.now (record { goal = g; require = t.require }) plans → IsBestOf s.query.now s.rules.now (Expression (made.Glue stream preds) b) plans
+  glued_here plans glued = glued (Expression (made.Glue stream preds) b) (λ i. Some ((sym is_stream i).require, own_goal i))

@@ -1,4 +1,5 @@
-mod Operators
+mod Sharing
+mod OperatorSets
 mod Glues
 mod Ranges
 mod Alternatives

@@ -4,5 +4,6 @@
 mod arms;
 mod bodies;
 mod goals;
+mod operators;
 
 pub use goals::goal_plans;

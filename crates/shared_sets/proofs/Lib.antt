@@ -1,0 +1,2 @@
+mod TableLaws
+pub mod Laws

@@ -1,0 +1,4 @@
+pub mod Equality
+pub mod EqualityCases
+pub mod Tables
+pub mod RequestCases
