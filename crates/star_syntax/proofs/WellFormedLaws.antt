@@ -70,7 +70,7 @@ record Numbers (n : ℕ) (formulas : List FormulaDef) (stars : List StarDef) : T
   differ_ : differ nat_eq (formula_numbers formulas ++ star_numbers stars) ≡ true
 
 numbers : {n : ℕ} {lists : List (List Lexeme)} {formulas : List FormulaDef} {stars : List StarDef} → SpellsDefinitions n lists formulas stars → Numbers n formulas stars
-numbers rule.none = record { numbers = tt; words = tt; of_formulas = tt; of_stars = tt; differ_ = refl }
+numbers rule.none = record { of_formulas = tt; of_stars = tt; differ_ = refl }
 numbers {n} (rule.formula {d = d} {formulas = formulas} {stars = stars} p h) =
     let later = numbers h in
     record {
@@ -183,7 +183,7 @@ keep_first n before lexemes (OfStar s) formulas stars spells fine later =
     }
 
 keep : (n : ℕ) (before statements : List RuleStatement) → AreSpelled n statements → NoneFrom IsBeyond before statements → Keep before (formulas_of statements) (stars_of statements)
-keep n before [] spelled none = record { of_formulas = tt; of_stars = tt; are_stars = tt; few = λ few. omega (arith, few) }
+keep n before [] spelled none = record { numbers = tt; words = tt; of_formulas = tt; of_stars = tt; are_stars = tt; few = λ few. omega (arith, few) }
 keep n before (s ∷ later) spelled none =
     keep_first n before s.lexemes s.defines (formulas_of later) (stars_of later) spelled.0 none.0 (keep (n + 1) (before ++ s ∷ []) later spelled.1 none.1)
 
