@@ -1,0 +1,2 @@
+setlocal comments=:# commentstring=#\ %s
+let b:undo_ftplugin = 'setlocal comments< commentstring<'
