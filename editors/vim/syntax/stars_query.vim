@@ -9,7 +9,7 @@ syntax match starsQueryClause '\<\(select\|from\|where\|and\|order\|by\|at\)\>'
 " A column may have any word, one of a clause included.
 syntax match starsQueryColumn '\(\.\_s*\)\@<=\h\w*'
 syntax match starsQueryComparison '<=\|>=\|<>\|[=<>]'
-syntax match starsQueryNumber '-\=\s*\<\d\+\>'
+syntax match starsQueryNumber '\(-\s*\)\=\<\d\+\>'
 syntax match starsQueryBracket '[,;.]'
 syntax region starsQueryText start=+'+ skip=+''+ end=+'+
 syntax match starsQueryComment '#.*$' contains=@Spell
