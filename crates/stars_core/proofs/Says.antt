@@ -20,7 +20,7 @@ use Rattle.stars_core.specs.Judging.{RulesPass, CataloguePasses, QueryPasses}
 use Rattle.stars_core.specs.Saying.{Saying, Says, SaysRules, SaysCase, SpelledPlan, text_at}
 
 pub says_rules : (r : List ℕ) (rules : RuleFile) → RulesPass r rules → SaysRules r rules
-says_rules r rules pass = record { of_rules = pass.read.spells; formed = pass.read.formed; accepted = pass.accepted }
+says_rules r rules pass = record { of_rules = pass.read.spells; formed = pass.read.formed; fits = pass.read.fits; accepted = pass.accepted }
 
 pub says_case : (r c q : List ℕ) (rules : RuleFile) (catalogue : CatalogueTree) (query : QueryTree) → RulesPass r rules → CataloguePasses c catalogue → QueryPasses catalogue q query
     → SaysCase r c q rules query

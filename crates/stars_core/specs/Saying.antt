@@ -11,6 +11,7 @@ use Rattle.star_model.specs.declared.plans.Props.{Props}
 use Rattle.star_model.specs.WellFormedRules.{WellFormedRules}
 use Rattle.spelling.specs.Layout.{commented}
 use Rattle.rule_grammar.specs.Rules.{SpellsRules, canonical as canonical_rules}
+use Rattle.rule_grammar.specs.RuleLimits.{KeepsLexemeLimits}
 use Rattle.derivation_reading.specs.Derivations.{SpellsDerivation, canonical}
 use Rattle.catalogue.specs.Catalogues.{SpellsCatalogue}
 use Rattle.query_graph.specs.Queries.{SpellsQuery}
@@ -36,10 +37,11 @@ three r c q = (Rules, r) ∷ (Catalogue, c) ∷ (Query, q) ∷ []
 abbrev pub four : List ℕ → List ℕ → List ℕ → List ℕ → List Given
 four r c q d = three r c q ++ (Derivation, d) ∷ []
 
--- the text says these rules, which are accepted
+-- the text says these rules, which keep all limits and are accepted
 pub record SaysRules (r : List ℕ) (rules : RuleFile) : Type 0 where
   pub of_rules : SpellsRules r rules
   pub formed : WellFormedRules rules
+  pub fits : KeepsLexemeLimits rules
   pub accepted : IsAccepted rules
 
 -- the three texts say these rules and this query
