@@ -2,12 +2,12 @@
 use Rattle.std.proofs.Common.{◌≡◌, ℕ, Bool, true, false, ◌&&◌, List, [], ◌∷◌, ◌++◌, refl, ap, sym, ◌∙◌, if◌then◌else◌}
 use Rattle.std.specs.Prelude.{Option, Some, None, slice_get}
 use Rattle.std.proofs.lemmas.Bool.{eqb-true, eq-eqb}
-use Rattle.star_model.proofs.BoolLaws.{both, and}
+use Rattle.star_model.proofs.BoolLaws.{both, and, either_first, not_here}
 use Rattle.star_model.specs.Costs.{row_of, flavours, same_flavour, same_which, formula_of}
 use Rattle.star_model.specs.declared.costs.CostEntry.{CostEntry}
 use Rattle.star_model.specs.declared.formula.Formula.{Formula}
 use Rattle.star_model.specs.declared.rules.Flavour.{Flavour}
-use Rattle.star_model.specs.declared.rules.Flavour.TheVariants.{AccessHeap, AccessIndex, Get, Filter, Sort, Store, Ship, Probe, JoinNl, JoinMerge, JoinHash}
+use Rattle.star_model.specs.declared.rules.Flavour.TheVariants.{AccessHeap, AccessIndex, Get, Filter, Sort, Store, Ship, Probe, JoinNl, JoinMerge, JoinHash, Intersect}
 use Rattle.star_model.specs.declared.rules.Which.{Which}
 use Rattle.star_model.specs.declared.rules.Which.TheVariants.{Cost, Rescan}
 
@@ -23,6 +23,7 @@ in_table Probe = refl
 in_table JoinNl = refl
 in_table JoinMerge = refl
 in_table JoinHash = refl
+in_table Intersect = refl
 
 pub one_row : (f g : Flavour) → row_of f ≡ row_of g → f ≡ g
 one_row f g e = let t : Some f ≡ Some g = sym (in_table f) ∙ ap (slice_get flavours) e ∙ in_table g in cc
@@ -40,15 +41,6 @@ whichs_meet Cost Rescan Cost p q = cc
 whichs_meet Cost Rescan Rescan p q = cc
 whichs_meet Rescan Cost Cost p q = cc
 whichs_meet Rescan Cost Rescan p q = cc
-
-either_first : (c d : Bool) (x y z : Option Formula) → (c ≡ true → d ≡ true → ⊥) → (if c then x else if d then y else z) ≡ (if d then y else if c then x else z)
-either_first true true x y z no_ = absurd (no_ refl refl)
-either_first true false x y z no_ = refl
-either_first false d x y z no_ = refl
-
-not_here : (c : Bool) (x : Formula) (o : Option Formula) → (if c then Some x else o) ≡ None → (c ≡ false) × (o ≡ None)
-not_here true x o h = cc
-not_here false x o h = (refl, h)
 
 pub formula_of-push : (costs : List CostEntry) (e : CostEntry) (f : Flavour) (w : Which) → formula_of costs e.flavour e.which ≡ None
     → formula_of (costs ++ e ∷ []) f w ≡ (if same_flavour e.flavour f && same_which e.which w then Some e.formula else formula_of costs f w)

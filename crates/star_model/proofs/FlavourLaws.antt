@@ -18,6 +18,7 @@ named flavour.Probe = refl
 named flavour.JoinNl = refl
 named flavour.JoinMerge = refl
 named flavour.JoinHash = refl
+named flavour.Intersect = refl
 
 pub same_flavour_word : (f g : Flavour) → flavour_word f ≡ flavour_word g → f ≡ g
 same_flavour_word f g e =

@@ -20,6 +20,8 @@ pub use Rattle.star_model.proofs.KindLaws.{means}
 pub use Rattle.star_model.proofs.StreamLaws.{streams_pass, stream_passes}
 pub use Rattle.star_model.proofs.MemberLaws.{member_has_kind, members_have_kind, member_passes, members_pass, few_members_of}
 pub use Rattle.star_model.proofs.CostLaws.{one_row, one_flavour, formula_of-push}
+pub use Rattle.star_model.proofs.SelectLaws.{one_class, same_class_word, select_of-push}
+pub use Rattle.star_model.proofs.WeighLaws.{weighed_again, weighed_formed}
 use Rattle.star_model.proofs.InvalidLaws.{first}
 use Rattle.star_model.proofs.JudgeLaws.{judged, valid_from, valid_to, vector_from, vector_to, root_from, root_to}
 use Rattle.star_model.specs.Plans.{vector}

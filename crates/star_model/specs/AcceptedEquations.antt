@@ -1,6 +1,6 @@
 -- Written by tools/cases.py.
 -- What the definitions of Accepted are of the values that code makes, for proofs about code.
-use Rattle.std.specs.Prelude.{◌≡◌, refl, ℕ, List, [], ◌∷◌, ◌++◌}
+use Rattle.std.specs.Prelude.{◌≡◌, refl, ℕ, List, []}
 use denote.Hole.Carrier.{hidden}
 use Rattle.star_model.specs.declared.rules.PlanExpr.TheBlock.{hidden-the_row-PlanExpr-0}
 use Rattle.star_model.specs.declared.rules.PlanExpr.TheVariants as made_planexpr
@@ -8,6 +8,7 @@ use Rattle.star_model.specs.declared.rules.Condition.TheBlock.{hidden-the_row-Co
 use Rattle.star_model.specs.declared.rules.Condition.TheVariants as made_condition
 use Rattle.star_model.specs.declared.rules.ValueExpr.TheBlock.{hidden-the_row-ValueExpr-0}
 use Rattle.star_model.specs.declared.rules.ValueExpr.TheVariants as made_value
+use Rattle.std.specs.Prelude.{◌∷◌, ◌++◌}
 use Rattle.star_model.specs.declared.rules.ValueExpr.{ValueExpr}
 use Rattle.star_model.specs.declared.rules.Condition.{Condition}
 use Rattle.star_model.specs.declared.rules.PlanExpr.{PlanExpr}

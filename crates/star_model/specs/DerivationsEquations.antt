@@ -1,9 +1,10 @@
 -- Written by tools/cases.py.
 -- What the definitions of Derivations are of the values that code makes, for proofs about code.
-use Rattle.std.specs.Prelude.{◌≡◌, refl, ℕ, List, Option, true, ◌&&◌, Some, option_and_then}
+use Rattle.std.specs.Prelude.{◌≡◌, refl, ℕ, List, Option}
 use denote.Hole.Carrier.{hidden}
 use Rattle.star_model.specs.declared.derivations.Deriv.TheBlock.{hidden-the_row-Deriv-0}
 use Rattle.star_model.specs.declared.derivations.Deriv.TheVariants as made
+use Rattle.std.specs.Prelude.{true, ◌&&◌, Some, option_and_then}
 use Rattle.star_model.specs.Requirements.{satisfies}
 use Rattle.star_model.specs.Plans.{chain_over}
 use Rattle.star_model.specs.Goals.{is_target}

@@ -125,6 +125,7 @@ operator_of flavour.Probe vs = op.Probe (as_cols (at_index vs 0)) (as_preds (at_
 operator_of flavour.JoinNl vs = op.JoinNl (as_preds (at_index vs 0))
 operator_of flavour.JoinMerge vs = op.JoinMerge (as_preds (at_index vs 0)) (as_preds (at_index vs 1))
 operator_of flavour.JoinHash vs = op.JoinHash (as_preds (at_index vs 0)) (as_preds (at_index vs 1))
+operator_of flavour.Intersect vs = op.Intersect
 
 -- the arguments of an expression that is this operator with no input, and with one or two these too
 unfoldable pub leaf_of : Flavour → PlanExpr → Option (List ValueExpr)

@@ -1,9 +1,10 @@
 -- Written by tools/cases.py.
 -- What the definitions of Expected are of the values that code makes, for proofs about code.
-use Rattle.std.specs.Prelude.{◌≡◌, refl, ℕ, List, Some, None, if◌then◌else◌}
+use Rattle.std.specs.Prelude.{◌≡◌, refl, ℕ, List}
 use denote.Hole.Carrier.{hidden}
 use Rattle.star_model.specs.declared.rules.PlanExpr.TheBlock.{hidden-the_row-PlanExpr-0}
 use Rattle.star_model.specs.declared.rules.PlanExpr.TheVariants as made
+use Rattle.std.specs.Prelude.{Some, None, if◌then◌else◌}
 use Rattle.star_model.specs.Costs.{same_flavour}
 use Rattle.star_model.specs.declared.rules.Flavour.{Flavour}
 use Rattle.star_model.specs.declared.rules.PlanExpr.{PlanExpr}

@@ -1,9 +1,10 @@
 -- Written by tools/cases.py.
 -- What the definitions of Formulas are of the values that code makes, for proofs about code.
-use Rattle.std.specs.Prelude.{◌≡◌, refl, ℕ, min, max, if◌then◌else◌}
+use Rattle.std.specs.Prelude.{◌≡◌, refl, ℕ}
 use denote.Hole.Carrier.{hidden}
 use Rattle.star_model.specs.declared.formula.Formula.TheBlock.{hidden-the_row-Formula-0}
 use Rattle.star_model.specs.declared.formula.Formula.TheVariants as made
+use Rattle.std.specs.Prelude.{min, max, if◌then◌else◌}
 use Rattle.star_model.specs.Numbers.{cut, cut_sum, cut_difference, cut_product, cut_quotient}
 use Rattle.star_model.specs.declared.formula.Formula.{Formula}
 use Rattle.star_model.specs.declared.formula.Vars.{Vars}

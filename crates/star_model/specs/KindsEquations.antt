@@ -1,11 +1,12 @@
 -- Written by tools/cases.py.
 -- What the definitions of Kinds are of the values that code makes, for proofs about code.
-use Rattle.std.specs.Prelude.{◌≡◌, refl, ℕ, List, ◌&&◌, ◌||◌, Some, slice_get, is_some}
+use Rattle.std.specs.Prelude.{◌≡◌, refl, ℕ, List}
 use denote.Hole.Carrier.{hidden}
 use Rattle.star_model.specs.declared.rules.ValueExpr.TheBlock.{hidden-the_row-ValueExpr-0}
 use Rattle.star_model.specs.declared.rules.ValueExpr.TheVariants as made_value
 use Rattle.star_model.specs.declared.rules.Condition.TheBlock.{hidden-the_row-Condition-0}
 use Rattle.star_model.specs.declared.rules.Condition.TheVariants as made_condition
+use Rattle.std.specs.Prelude.{◌&&◌, ◌||◌, Some, slice_get, is_some}
 use Rattle.star_model.specs.declared.rules.ValueExpr.{ValueExpr}
 use Rattle.star_model.specs.declared.rules.Condition.{Condition}
 use Rattle.star_model.specs.declared.rules.Kind.{Kind}

@@ -1,11 +1,12 @@
 -- Written by tools/cases.py.
 -- What the definitions of Meaning are of the values that code makes, for proofs about code.
-use Rattle.std.specs.Prelude.{◌≡◌, refl, ℕ, List, [], true, not, ◌&&◌, ◌||◌, nat_eq, Some, slice_index_or}
+use Rattle.std.specs.Prelude.{◌≡◌, refl, ℕ, List, []}
 use denote.Hole.Carrier.{hidden}
 use Rattle.star_model.specs.declared.rules.ValueExpr.TheBlock.{hidden-the_row-ValueExpr-0}
 use Rattle.star_model.specs.declared.rules.ValueExpr.TheVariants as made_value
 use Rattle.star_model.specs.declared.rules.Condition.TheBlock.{hidden-the_row-Condition-0}
 use Rattle.star_model.specs.declared.rules.Condition.TheVariants as made_condition
+use Rattle.std.specs.Prelude.{true, not, ◌&&◌, ◌||◌, nat_eq, Some, slice_index_or}
 use Rattle.star_model.specs.Sets.{union, minus, meet, size}
 use Rattle.star_model.specs.Predicates.{preds_where, eligible, crossing, all_quants}
 use Rattle.star_model.specs.Vectors.{begins}

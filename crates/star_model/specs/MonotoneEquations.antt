@@ -1,9 +1,10 @@
 -- Written by tools/cases.py.
 -- What the definitions of Monotone are of the values that code makes, for proofs about code.
-use Rattle.std.specs.Prelude.{◌≡◌, refl, ℕ, [], true, false, not, ◌&&◌, ◌∷◌, ◌++◌}
+use Rattle.std.specs.Prelude.{◌≡◌, refl, ℕ, []}
 use denote.Hole.Carrier.{hidden}
 use Rattle.star_model.specs.declared.formula.Formula.TheBlock.{hidden-the_row-Formula-0}
 use Rattle.star_model.specs.declared.formula.Formula.TheVariants as made
+use Rattle.std.specs.Prelude.{true, false, not, ◌&&◌, ◌∷◌, ◌++◌}
 use Rattle.star_model.specs.FormulaCases.{Number, Variable, Add, Sub, Mul, Div, Min, Max, If}
 use Rattle.star_model.specs.declared.formula.Formula.{Formula}
 use Rattle.star_model.specs.declared.formula.Var.{Var}

@@ -1,9 +1,10 @@
 -- Written by tools/cases.py.
 -- What the definitions of Plans are of the values that code makes, for proofs about code.
-use Rattle.std.specs.Prelude.{◌≡◌, refl, List, [], ◌∷◌, option_and_then}
+use Rattle.std.specs.Prelude.{◌≡◌, refl, List, []}
 use denote.Hole.Carrier.{hidden}
 use Rattle.star_model.specs.declared.plans.Plan.TheBlock.{hidden-the_row-Plan-0}
 use Rattle.star_model.specs.declared.plans.Plan.TheVariants as made
+use Rattle.std.specs.Prelude.{◌∷◌, option_and_then}
 use Rattle.star_model.specs.Operators.{step}
 use Rattle.star_model.specs.declared.query.Query.{Query}
 use Rattle.star_model.specs.declared.costs.CostEntry.{CostEntry}

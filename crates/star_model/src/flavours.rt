@@ -1,11 +1,11 @@
-// How operators, costs and kinds are written in rule files, derivations and messages.
+// How operators, costs, kinds and classes of predicates are written in rule files, derivations and messages.
 
 ghost use Rattle.std.specs.Prelude.{◌≡◌};
-ghost use Rattle.star_model.specs.FlavourWords.{flavour_word, which_word, kind_word, flavour_of, kind_of_word};
+ghost use Rattle.star_model.specs.FlavourWords.{flavour_word, which_word, kind_word, class_word, flavour_of, flavour_in, is_flavour_of, kind_of_word, class_of_word};
 
-use crate::rules::{Flavour, Kind, Which};
+use crate::rules::{Class, Flavour, Kind, Which};
 
-const FLAVOURS: [Flavour; 11] = [
+const FLAVOURS: [Flavour; 12] = [
     Flavour::AccessHeap,
     Flavour::AccessIndex,
     Flavour::Get,
@@ -17,7 +17,10 @@ const FLAVOURS: [Flavour; 11] = [
     Flavour::JoinNl,
     Flavour::JoinMerge,
     Flavour::JoinHash,
+    Flavour::Intersect,
 ];
+
+const CLASSES: [Class; 4] = [Class::EqConst, Class::EqColumn, Class::Ne, Class::Less];
 
 const KINDS: [Kind; 6] = [
     Kind::Stream,
@@ -44,6 +47,7 @@ pub fn flavour_word(flavour: Flavour) -> &'static str
         Flavour::JoinNl => "JOIN_NL",
         Flavour::JoinMerge => "JOIN_MERGE",
         Flavour::JoinHash => "JOIN_HASH",
+        Flavour::Intersect => "INTERSECT",
     }
 }
 
@@ -56,6 +60,29 @@ pub fn flavour_of(word: &[u8]) -> Option<Flavour>
         .iter()
         .copied()
         .find(|flavour| flavour_word(*flavour).as_bytes() == word)
+}
+
+/// Whether rule files of this version have the operator.
+pub fn is_flavour_of(version: u8, flavour: Flavour) -> bool
+    ensures { result ≡ is_flavour_of version flavour }
+{
+    match flavour {
+        Flavour::Intersect => version == 2,
+        _ => true,
+    }
+}
+
+/// The operator that a word names in rule files of this version.
+#[tactic(auto, unfolding(crate::specs::FlavourWords::flavour_in))]
+pub fn flavour_in(version: u8, word: &[u8]) -> Option<Flavour>
+    ensures { result ≡ flavour_in version word.now }
+{
+    let flavour = flavour_of(word)?;
+    if is_flavour_of(version, flavour) {
+        Some(flavour)
+    } else {
+        None
+    }
 }
 
 /// The word for a cost.
@@ -91,4 +118,27 @@ pub fn kind_of(word: &[u8]) -> Option<Kind>
         .iter()
         .copied()
         .find(|kind| kind_word(*kind).as_bytes() == word)
+}
+
+/// The word for a class of predicates.
+pub fn class_word(class: Class) -> &'static str
+    ensures { result.now ≡ class_word class }
+{
+    match class {
+        Class::EqConst => "EQ_CONST",
+        Class::EqColumn => "EQ_COLUMN",
+        Class::Ne => "NE",
+        Class::Less => "LESS",
+    }
+}
+
+/// The class that a word names.
+#[tactic(auto, unfolding(crate::specs::FlavourWords::class_of_word))]
+pub fn class_of(word: &[u8]) -> Option<Class>
+    ensures { result ≡ class_of_word word.now }
+{
+    CLASSES
+        .iter()
+        .copied()
+        .find(|class| class_word(*class).as_bytes() == word)
 }

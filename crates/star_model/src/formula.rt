@@ -26,6 +26,13 @@ pub enum Var {
     Net,
     /// Always 1.
     One,
+    /// Distinct values of a predicate's left column. This and the next three stand in selectivities only.
+    Distinct1,
+    /// Rows of the left column's table.
+    Rows1,
+    /// Of the right column, as the two before.
+    Distinct2,
+    Rows2,
 }
 
 /// How an `if` of a formula compares its two parts.
@@ -86,6 +93,14 @@ pub struct Vars {
     pub cpu: Num,
     /// The weights of both sites of a shipment; 0 where nothing is shipped.
     pub net: Num,
+    /// Distinct values of a predicate's left column; 0 in a cost formula, as the next three.
+    pub distinct1: Num,
+    /// Rows of the left column's table.
+    pub rows1: Num,
+    /// Distinct values of the right column; 0 where the right side is a constant, as the next.
+    pub distinct2: Num,
+    /// Rows of the right column's table.
+    pub rows2: Num,
 }
 
 impl Formula {

@@ -14,6 +14,7 @@ pub mod num;
 pub mod plans;
 pub mod query;
 pub mod rules;
+pub mod selects;
 pub mod sets;
 pub mod theorems;
 pub mod values;

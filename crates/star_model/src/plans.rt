@@ -85,6 +85,7 @@ pub enum Op {
         merge: PredSet,
         preds: PredSet,
     },
+    Intersect,
 }
 
 /// A tree of operators, without the rules that it comes from.

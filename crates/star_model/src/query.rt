@@ -3,6 +3,7 @@
 use crate::catalogue::{Catalogue, Value};
 use crate::columns::{Col, ColList, Site};
 use crate::lists::{List, Name};
+use crate::num::Num;
 
 /// A quantifier: a table of the query under a name. One table may have several.
 #[derive(Debug, Drop)]
@@ -36,6 +37,9 @@ pub struct Pred {
     pub left: Col,
     pub cmp: Cmp,
     pub right: Operand,
+    /// Its selectivity: of `den` rows, `num` make it true. A `den` of 0 counts as 1.
+    pub num: Num,
+    pub den: Num,
 }
 
 /// A query over a catalogue: the rows of its quantifiers that make every predicate true.
@@ -43,7 +47,7 @@ pub struct Pred {
 pub struct Query {
     /// A copy of the one that the query was read against.
     pub catalogue: Catalogue,
-    /// 1 to 8 in an accepted query.
+    /// 1 to 12 in an accepted query.
     pub quants: List<QuantDef>,
     /// 1 to 64 in an accepted query.
     pub select: List<Col>,

@@ -18,6 +18,8 @@ pub enum Flavour {
     JoinNl,
     JoinMerge,
     JoinHash,
+    /// The rows that two accesses of one table share. Only in rule files of version 2.
+    Intersect,
 }
 
 /// The two costs of an operator's result: of its first production, and of each further one.
@@ -172,9 +174,36 @@ pub struct FormulaDef {
     pub formula: Formula,
 }
 
+/// How a predicate compares, as far as its selectivity goes.
+#[derive(Clone, Copy, Debug, PartialEq, Eq)]
+pub enum Class {
+    /// A column is equal to a constant.
+    EqConst,
+    /// Two columns are equal.
+    EqColumn,
+    /// The two sides are different.
+    Ne,
+    /// One side is less than the other, or not greater.
+    Less,
+}
+
+/// The selectivity of the predicates of a class: of `den` rows, `num` make such a predicate true.
+#[derive(Drop)]
+pub struct SelectDef {
+    /// The number of its statement in the file, from 2: the first says the version.
+    pub statement: u32,
+    pub class: Class,
+    pub num: Formula,
+    pub den: Formula,
+}
+
 /// A rule file, in the order of its statements.
 #[derive(Drop)]
 pub struct RuleFile {
+    /// 1 or 2.
+    pub version: u8,
+    /// None in version 1.
+    pub selects: List<SelectDef>,
     pub formulas: List<FormulaDef>,
     /// At most 64 in a rule file that was read.
     pub stars: List<StarDef>,

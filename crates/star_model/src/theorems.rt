@@ -3,7 +3,8 @@
 ghost use Rattle.std.specs.Prelude.{◌≡◌, ◌≢◌, ℕ, ◌<◌, ◌≤◌, ◌+◌, ◌-◌, ◌*◌, ◌^◌, max, Bool, true, false, ◌&&◌, ◌||◌, not, nat_eq, ◌↔◌, List as Seq, [], ◌∷◌, ◌++◌, Some, None, if◌then◌else◌, replicate, length, map, All, IsSortedBy, filter};
 ghost use Rattle.std.specs.List.{count_by, list_all, range_with_len};
 ghost use Rattle.star_model.specs.Every.{Every};
-ghost use Rattle.star_model.specs.FlavourWords.{flavour_word};
+ghost use Rattle.star_model.specs.FlavourWords.{flavour_word, class_word};
+ghost use Rattle.star_model.specs.Selectivity.{same_class, select_of, weighed};
 ghost use Rattle.star_model.specs.Numbers.{top, cut_sum, cut_difference, cut_product, cut_quotient, quotient_up};
 ghost use Rattle.star_model.specs.Sets.{has, members, set_of, single, union, meet, minus, is_within, size, splits, is_pair, IsSplit};
 ghost use Rattle.star_model.specs.Columns.{Columns, has_column, columns_where, union_columns, is_column_at, with_column, is_columns_within};
@@ -31,6 +32,8 @@ ghost use Rattle.star_model.specs.declared.query.Query.{Query};
 ghost use Rattle.star_model.specs.declared.plans.Plan.{Plan};
 ghost use Rattle.star_model.specs.declared.plans.Props.{Props};
 ghost use Rattle.star_model.specs.declared.plans.Require.{Require};
+ghost use Rattle.star_model.specs.declared.rules.Class.{Class};
+ghost use Rattle.star_model.specs.declared.selects.SelectEntry.{SelectEntry};
 ghost use Rattle.star_model.specs.declared.rules.Flavour.{Flavour};
 ghost use Rattle.star_model.specs.declared.rules.Kind.{Kind};
 ghost use Rattle.star_model.specs.declared.rules.Kind.TheVariants as kind;
@@ -155,6 +158,24 @@ pub fn passing_is_without_offence()
 pub fn entries_add_formulas()
     ensures { (costs : Seq CostEntry) (e : CostEntry) (f : Flavour) (w : Which) → formula_of costs e.flavour e.which ≡ None
         → formula_of (costs ++ e ∷ []) f w ≡ (if same_flavour e.flavour f && same_which e.which w then Some e.formula else formula_of costs f w) }
+{}
+
+/// With a further entry, whose class has no formulas yet, a list of selectivities has its formulas there, and elsewhere what it had.
+pub fn entries_add_selectivities()
+    ensures { (selects : Seq SelectEntry) (e : SelectEntry) (c : Class) → select_of selects e.class ≡ None
+        → select_of (selects ++ e ∷ []) c ≡ (if same_class e.class c then Some e else select_of selects c) }
+{}
+
+/// Classes that the test finds the same, or that are written with one word, are one.
+pub fn classes_are_told_apart()
+    ensures test { (c d : Class) → same_class c d ≡ true → c ≡ d }
+    ensures word { (c d : Class) → class_word c ≡ class_word d → c ≡ d }
+{}
+
+/// Weighing a query looks at no selectivity that it has, and changes nothing else.
+pub fn weighing_changes_selectivities()
+    ensures again { (a b : Seq SelectEntry) (q : Query) → weighed a (weighed b q) ≡ weighed a q }
+    ensures formed { (selects : Seq SelectEntry) (q : Query) → WellFormedQuery q → WellFormedQuery (weighed selects q) }
 {}
 
 /// Better than or equal to is a partial order of vectors without their numbers of rows.
