@@ -1,5 +1,5 @@
 -- The numbers of a formula are those of the words that spell it.
-use Rattle.std.proofs.Common.{ℕ, ◌^◌, ◌<◌, List, [], ◌∷◌, map, codes, refl}
+use Rattle.std.proofs.Common.{◌^◌, ◌<◌, List, [], ◌∷◌, map, codes, refl}
 use Rattle.star_model.specs.declared.formula.Formula.{Formula}
 use Rattle.star_model.specs.declared.formula.Formula.TheVariants as f
 use Rattle.star_model.specs.declared.formula.Test.TheVariants as test

@@ -13,18 +13,18 @@ use Rattle.cost_formula.specs.FormulaGrammar as g
 use Rattle.cost_formula.specs.FormulaGrammar.{Rank, Spells, Whole}
 use Rattle.cost_formula.specs.FormulaCanonical.{words_of}
 use Rattle.cost_formula.specs.FormulaReading.{whole_at}
-use Rattle.cost_formula.specs.Formulas.{variable_word, cost_variables, select_variables, formula_word, formula_lexeme, formula_lexemes, SpellsIn, SpellsFormula, SpellsSelect}
+use Rattle.cost_formula.specs.Formulas.{variable_word, formula_keywords, cost_variables, select_variables, formula_word, formula_lexeme, formula_lexemes, SpellsIn, SpellsFormula, SpellsSelect}
 use Rattle.cost_formula.proofs.FormulaCanon.{canonical_spells}
 use Rattle.cost_formula.proofs.FormulaComplete as complete
 use Rattle.cost_formula.proofs.FormulaSound.{spelled}
 use Rattle.cost_formula.proofs.NamedWords.{Passes, all_pass}
 
 -- a word that can stand in a formula is what its lexeme stands for
-pub Stands : FormulaWord → Type 0
+unfoldable pub Stands : FormulaWord → Type 0
 Stands w.Other = ⊥
 Stands _ = Unit {0}
 
-pub AllStand : List FormulaWord → Type 0
+unfoldable pub AllStand : List FormulaWord → Type 0
 AllStand [] = Unit {0}
 AllStand (x ∷ xs) = Stands x × AllStand xs
 
@@ -54,17 +54,23 @@ module _ where
 
 -- ---- the words of what is written
 
--- the variables that may be named are known by their words
-module _ (variables : List Var) (may : Var → Bool) (knows : (x : Var) → may x ≡ true → formula_word variables (Word (variable_word x)) ≡ w.Variable x) where
+-- each word stands for what it names
+abbrev Keywords : List Var → Type 0
+Keywords variables = Every (λ row. formula_word variables (Word row.0) ≡ row.1) formula_keywords
+
+abbrev Names : List Var → (Var → Bool) → Type 0
+Names variables may = (x : Var) → may x ≡ true → formula_word variables (Word (variable_word x)) ≡ w.Variable x
+
+module _ (variables : List Var) (may : Var → Bool) (keywords : Keywords variables) (names : Names variables may) where
   stands_for : (x : FormulaWord) → Stands x → Passes may x → formula_word variables (formula_lexeme x) ≡ x
   unfolding Stands Passes formula_word formula_lexeme
   stands_for (w.Number n) h k = refl
-  stands_for (w.Variable x) h k = knows x k
-  stands_for w.If h k = refl
-  stands_for w.Then h k = refl
-  stands_for w.Else h k = refl
-  stands_for w.Min h k = refl
-  stands_for w.Max h k = refl
+  stands_for (w.Variable x) h k = names x k
+  stands_for w.If h k = keywords.0
+  stands_for w.Then h k = keywords.1.0
+  stands_for w.Else h k = keywords.1.1.0
+  stands_for w.Min h k = keywords.1.1.1.0
+  stands_for w.Max h k = keywords.1.1.1.1.0
   stands_for (w.Test test.Lt) h k = refl
   stands_for (w.Test test.Le) h k = refl
   stands_for (w.Test test.Eq) h k = refl
@@ -87,57 +93,65 @@ module _ (variables : List Var) (may : Var → Bool) (knows : (x : Var) → may 
       let spelled = canonical_spells x in
       subst (λ ws. Spells Whole ws x) (sym (back (words_of x) (all_stand spelled) (all_pass may spelled h))) spelled
 
-knows_cost : (x : Var) → is_of_cost x ≡ true → formula_word cost_variables (Word (variable_word x)) ≡ w.Variable x
+cost_keywords : Keywords cost_variables
 unfolding formula_word
-knows_cost var.Cost1 h = refl
-knows_cost var.Rescan1 h = refl
-knows_cost var.Card1 h = refl
-knows_cost var.Width1 h = refl
-knows_cost var.Cost2 h = refl
-knows_cost var.Rescan2 h = refl
-knows_cost var.Card2 h = refl
-knows_cost var.Width2 h = refl
-knows_cost var.Card h = refl
-knows_cost var.Width h = refl
-knows_cost var.Rows h = refl
-knows_cost var.Pages h = refl
-knows_cost var.Preds h = refl
-knows_cost var.Cpu h = refl
-knows_cost var.Net h = refl
-knows_cost var.One h = refl
-knows_cost var.Distinct1 h = cc
-knows_cost var.Rows1 h = cc
-knows_cost var.Distinct2 h = cc
-knows_cost var.Rows2 h = cc
+cost_keywords = (refl, (refl, (refl, (refl, (refl, tt)))))
 
-knows_select : (x : Var) → is_of_selectivity x ≡ true → formula_word select_variables (Word (variable_word x)) ≡ w.Variable x
+select_keywords : Keywords select_variables
 unfolding formula_word
-knows_select var.Cost1 h = cc
-knows_select var.Rescan1 h = cc
-knows_select var.Card1 h = cc
-knows_select var.Width1 h = cc
-knows_select var.Cost2 h = cc
-knows_select var.Rescan2 h = cc
-knows_select var.Card2 h = cc
-knows_select var.Width2 h = cc
-knows_select var.Card h = cc
-knows_select var.Width h = cc
-knows_select var.Rows h = cc
-knows_select var.Pages h = cc
-knows_select var.Preds h = cc
-knows_select var.Cpu h = cc
-knows_select var.Net h = cc
-knows_select var.One h = cc
-knows_select var.Distinct1 h = refl
-knows_select var.Rows1 h = refl
-knows_select var.Distinct2 h = refl
-knows_select var.Rows2 h = refl
+select_keywords = (refl, (refl, (refl, (refl, (refl, tt)))))
+
+cost_known : Names cost_variables is_of_cost
+unfolding formula_word
+cost_known var.Cost1 h = refl
+cost_known var.Rescan1 h = refl
+cost_known var.Card1 h = refl
+cost_known var.Width1 h = refl
+cost_known var.Cost2 h = refl
+cost_known var.Rescan2 h = refl
+cost_known var.Card2 h = refl
+cost_known var.Width2 h = refl
+cost_known var.Card h = refl
+cost_known var.Width h = refl
+cost_known var.Rows h = refl
+cost_known var.Pages h = refl
+cost_known var.Preds h = refl
+cost_known var.Cpu h = refl
+cost_known var.Net h = refl
+cost_known var.One h = refl
+cost_known var.Distinct1 h = cc
+cost_known var.Rows1 h = cc
+cost_known var.Distinct2 h = cc
+cost_known var.Rows2 h = cc
+
+select_known : Names select_variables is_of_selectivity
+unfolding formula_word
+select_known var.Cost1 h = cc
+select_known var.Rescan1 h = cc
+select_known var.Card1 h = cc
+select_known var.Width1 h = cc
+select_known var.Cost2 h = cc
+select_known var.Rescan2 h = cc
+select_known var.Card2 h = cc
+select_known var.Width2 h = cc
+select_known var.Card h = cc
+select_known var.Width h = cc
+select_known var.Rows h = cc
+select_known var.Pages h = cc
+select_known var.Preds h = cc
+select_known var.Cpu h = cc
+select_known var.Net h = cc
+select_known var.One h = cc
+select_known var.Distinct1 h = refl
+select_known var.Rows1 h = refl
+select_known var.Distinct2 h = refl
+select_known var.Rows2 h = refl
 
 pub canonical_cost : (x : Formula) → names_only is_of_cost x ≡ true → SpellsFormula (formula_lexemes x) x
-canonical_cost x h = canonical cost_variables is_of_cost knows_cost x h
+canonical_cost x h = canonical cost_variables is_of_cost cost_keywords cost_known x h
 
 pub canonical_select : (x : Formula) → names_only is_of_selectivity x ≡ true → SpellsSelect (formula_lexemes x) x
-canonical_select x h = canonical select_variables is_of_selectivity knows_select x h
+canonical_select x h = canonical select_variables is_of_selectivity select_keywords select_known x h
 
 pub one_formula : (variables : List Var) (lexemes : List Lexeme) (x y : Formula) → SpellsIn variables lexemes x → SpellsIn variables lexemes y → x ≡ y
 one_formula variables lexemes x y h k = complete.one (map (formula_word variables) lexemes) x y h k

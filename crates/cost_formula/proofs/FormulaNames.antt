@@ -1,22 +1,19 @@
 -- A spelled formula names only the variables that it may, and has no word of another place.
-use Rattle.std.proofs.Common.{◌≡◌, Bool, true, ◌&&◌, List, [], ◌∷◌, ◌++◌, map, codes, refl, subst, ap, ◌∙◌}
+use Rattle.std.proofs.Common.{◌≡◌, Bool, true, List, [], ◌∷◌, ◌++◌, map, codes, refl, subst, ap, ◌∙◌}
 use Rattle.std.specs.List.{list_all}
-use Rattle.std.proofs.lemmas.Bool.{and_parts}
 use Rattle.std.proofs.lemmas.List.Folds.{list_all-append}
 use Rattle.star_model.specs.Every.{Every}
 use Rattle.star_model.specs.Monotone.{nodes}
 use Rattle.star_model.specs.WellFormedRules.{names_at_top, names_only, is_of_cost, is_of_selectivity}
-use Rattle.star_model.specs.FormulaCases.{Add, Sub, Mul, Div, Min, Max, If}
 use Rattle.star_model.specs.declared.formula.Formula.{Formula}
-use Rattle.star_model.specs.declared.formula.Formula.TheVariants as f
 use Rattle.star_model.specs.declared.formula.Var.{Var}
 use Rattle.cost_formula.specs.declared.formula_word.FormulaWord.{FormulaWord}
 use Rattle.cost_formula.specs.declared.formula_word.FormulaWord.TheVariants as w
 use Rattle.spelling.specs.Lexemes.{Lexeme, Word, Number, Text, Symbol}
-use Rattle.spelling.specs.FormedLexemes.{every_both, every_front, every_back}
+use Rattle.spelling.specs.FormedLexemes.{every_front, every_back}
 use Rattle.cost_formula.specs.FormulaGrammar as g
 use Rattle.cost_formula.specs.FormulaGrammar.{Rank, Spells}
-use Rattle.cost_formula.specs.Formulas.{formula_word, formula_keywords, formula_lexemes, cost_variables, select_variables, SpellsIn, SpellsFormula, SpellsSelect}
+use Rattle.cost_formula.specs.Formulas.{formula_word, formula_lexemes, cost_variables, select_variables, SpellsFormula, SpellsSelect}
 use Rattle.cost_formula.proofs.FormulaWords.{word_has, symbol_has}
 use Rattle.cost_formula.proofs.FormulaLaws.{Stands, AllStand, all_stand, canonical_cost, canonical_select}
 use Rattle.cost_formula.proofs.NamedWords.{Passes}
@@ -28,8 +25,8 @@ module _ (may : Var → Bool) where
   joint : (xs ys : List Formula) → list_all p xs ≡ true → list_all p ys ≡ true → list_all p (xs ++ ys) ≡ true
   joint xs ys h k = list_all-append p xs ys ∙ rw (h, k) refl
 
-  four : (as bs cs ds : List Formula) → list_all p as ≡ true → list_all p bs ≡ true → list_all p cs ≡ true → list_all p ds ≡ true → list_all p (as ++ bs ++ cs ++ ds) ≡ true
-  four as bs cs ds h k m n = joint (as ++ bs ++ cs) ds (joint (as ++ bs) cs (joint as bs h k) m) n
+  four : (ks ls ms ns : List Formula) → list_all p ks ≡ true → list_all p ls ≡ true → list_all p ms ≡ true → list_all p ns ≡ true → list_all p (ks ++ ls ++ ms ++ ns) ≡ true
+  four ks ls ms ns h k m n = joint (ks ++ ls ++ ms) ns (joint (ks ++ ls) ms (joint ks ls h k) m) n
 
   abbrev All : List FormulaWord → Type 0
   All ws = Every (Passes may) ws
@@ -57,8 +54,8 @@ module _ (may : Var → Bool) where
       let k = (every_back (Passes may) a _ h.1).1 in
       let l = (every_back (Passes may) b _ k).1 in
       four (nodes x) (nodes y) (nodes s) (nodes t)
-        (named q (every_front (Passes may) a _ h.1)) (named r (every_front (Passes may) b _ k))
-        (named m (every_front (Passes may) c _ l)) (named n (every_back (Passes may) c _ l).1)
+      (named q (every_front (Passes may) a _ h.1)) (named r (every_front (Passes may) b _ k))
+      (named m (every_front (Passes may) c _ l)) (named n (every_back (Passes may) c _ l).1)
 
   module _ (variables : List Var) (known : Every (λ x. may x ≡ true) variables) where
     passes : (lexemes : List Lexeme) → All (map (formula_word variables) lexemes)
@@ -72,8 +69,8 @@ module _ (may : Var → Bool) where
 pub cost_names : (lexemes : List Lexeme) (x : Formula) → SpellsFormula lexemes x → names_only is_of_cost x ≡ true
 cost_names lexemes x h =
     named is_of_cost h (
-      passes is_of_cost cost_variables
-        (refl, (refl, (refl, (refl, (refl, (refl, (refl, (refl, (refl, (refl, (refl, (refl, (refl, (refl, (refl, (refl, tt)))))))))))))))) lexemes
+    passes is_of_cost cost_variables
+    (refl, (refl, (refl, (refl, (refl, (refl, (refl, (refl, (refl, (refl, (refl, (refl, (refl, (refl, (refl, (refl, tt)))))))))))))))) lexemes
     )
 
 pub select_names : (lexemes : List Lexeme) (x : Formula) → SpellsSelect lexemes x → names_only is_of_selectivity x ≡ true

@@ -1,5 +1,5 @@
 -- The words that spell a formula name the variables that it names.
-use Rattle.std.proofs.Common.{◌≡◌, Bool, true, ◌&&◌, List, [], ◌∷◌, ◌++◌, sym, ◌∙◌}
+use Rattle.std.proofs.Common.{◌≡◌, Bool, true, List, [], ◌∷◌, ◌++◌, sym, ◌∙◌}
 use Rattle.std.specs.List.{list_all}
 use Rattle.std.proofs.lemmas.Bool.{and_parts}
 use Rattle.std.proofs.lemmas.List.Folds.{list_all-append}
@@ -16,7 +16,7 @@ use Rattle.cost_formula.specs.FormulaGrammar.{Rank, Spells}
 
 module _ (may : Var → Bool) where
   -- it is no variable, or one that passes
-  pub Passes : FormulaWord → Type 0
+  unfoldable pub Passes : FormulaWord → Type 0
   Passes (w.Variable x) = may x ≡ true
   Passes _ = Unit {0}
 
@@ -26,12 +26,12 @@ module _ (may : Var → Bool) where
   parts : (xs ys : List Formula) → list_all p (xs ++ ys) ≡ true → (list_all p xs ≡ true) × (list_all p ys ≡ true)
   parts xs ys h = and_parts (list_all p xs) (list_all p ys) (sym (list_all-append p xs ys) ∙ h)
 
-  four : (as bs cs ds : List Formula) → list_all p (as ++ bs ++ cs ++ ds) ≡ true
-      → (list_all p as ≡ true) × (list_all p bs ≡ true) × (list_all p cs ≡ true) × (list_all p ds ≡ true)
-  four as bs cs ds h =
-      let l = parts (as ++ bs ++ cs) ds h in
-      let m = parts (as ++ bs) cs l.0 in
-      let n = parts as bs m.0 in
+  four : (ks ls ms ns : List Formula) → list_all p (ks ++ ls ++ ms ++ ns) ≡ true
+      → (list_all p ks ≡ true) × (list_all p ls ≡ true) × (list_all p ms ≡ true) × (list_all p ns ≡ true)
+  four ks ls ms ns h =
+      let l = parts (ks ++ ls ++ ms) ns h in
+      let m = parts (ks ++ ls) ms l.0 in
+      let n = parts ks ls m.0 in
       (n.0, n.1, m.1, l.1)
 
   -- in the words of a formula that names such variables, each passes

@@ -13,7 +13,7 @@ ghost use Rattle.cost_formula.specs.Reading.{Reads, IsAllOf};
 use crate::cursor::{Stop, WordCursor};
 use crate::formula_word::FormulaWord;
 use crate::rules::Rules;
-use crate::words::{words_of, Vocabulary};
+use crate::words::{Vocabulary, words_of};
 use sb_text::Token;
 use star_model::formula::Formula;
 use std::alloc::{AllocError, Global};

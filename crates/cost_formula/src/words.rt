@@ -6,7 +6,7 @@ ghost use Rattle.spelling.specs.Cursors.{AreTokensOf};
 ghost use Rattle.spelling.specs.Lexemes.{lexeme_of, lexemes_of};
 ghost use Rattle.spelling.specs.Names.{found_in};
 ghost use Rattle.star_model.specs.declared.formula.Var.{Var};
-ghost use Rattle.cost_formula.specs.Formulas.{formula_word, formula_symbols, formula_keywords, variable_rows};
+ghost use Rattle.cost_formula.specs.Formulas.{formula_word, formula_symbols, formula_keywords, variable_rows, cost_variables, select_variables};
 ghost use Rattle.cost_formula.specs.Vocabularies.{variables_of};
 
 use crate::formula_word::FormulaWord;
@@ -72,13 +72,27 @@ const SYMBOLS: [(&[u8], FormulaWord); 10] = [
     (b",", FormulaWord::Comma),
 ];
 
+// What a word stands for in a cost formula.
+fn cost_word(bytes: &[u8]) -> FormulaWord
+    ensures { result ≡ found_in FormulaWord.Other (variable_rows cost_variables formula_keywords) bytes.now }
+{
+    found_in(&COST_WORDS, bytes, FormulaWord::Other)
+}
+
+// What a word stands for in a formula of a selectivity.
+fn selectivity_word(bytes: &[u8]) -> FormulaWord
+    ensures { result ≡ found_in FormulaWord.Other (variable_rows select_variables formula_keywords) bytes.now }
+{
+    found_in(&SELECTIVITY_WORDS, bytes, FormulaWord::Other)
+}
+
 // What a word stands for.
 fn named(vocabulary: Vocabulary, bytes: &[u8]) -> FormulaWord
     ensures { result ≡ found_in FormulaWord.Other (variable_rows (variables_of vocabulary) formula_keywords) bytes.now }
 {
     match vocabulary {
-        Vocabulary::Cost => found_in(&COST_WORDS, bytes, FormulaWord::Other),
-        Vocabulary::Selectivity => found_in(&SELECTIVITY_WORDS, bytes, FormulaWord::Other),
+        Vocabulary::Cost => cost_word(bytes),
+        Vocabulary::Selectivity => selectivity_word(bytes),
     }
 }
 
