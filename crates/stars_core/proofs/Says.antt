@@ -1,9 +1,11 @@
 -- What texts that are accepted say.
-use Rattle.std.proofs.Common.{◌≡◌, ℕ, List, sym, subst}
+use Rattle.std.proofs.Common.{◌≡◌, ℕ, List, refl, sym, subst, ◌∙◌}
 use Rattle.star_model.specs.declared.catalogue.Catalogue.{Catalogue as CatalogueTree}
 use Rattle.star_model.specs.declared.query.Query.{Query as QueryTree}
 use Rattle.star_model.specs.declared.rules.RuleFile.{RuleFile}
 use Rattle.star_model.specs.declared.derivations.Deriv.{Deriv}
+use Rattle.star_model.specs.Selectivity.{selects_of, weighed}
+use Rattle.star_model.proofs.Laws.{weighed_formed}
 use Rattle.catalogue.specs.Catalogues.{SpellsCatalogue}
 use Rattle.query_graph.specs.Queries.{SpellsQuery}
 use Rattle.rule_grammar.proofs.Laws.{one_rule_file}
@@ -23,21 +25,28 @@ pub says_rules : (r : List ℕ) (rules : RuleFile) → RulesPass r rules → Say
 says_rules r rules pass = record { of_rules = pass.read.spells; formed = pass.read.formed; fits = pass.read.fits; accepted = pass.accepted }
 
 pub says_case : (r c q : List ℕ) (rules : RuleFile) (catalogue : CatalogueTree) (query : QueryTree) → RulesPass r rules → CataloguePasses c catalogue → QueryPasses catalogue q query
-    → SaysCase r c q rules query
+    → SaysCase r c q rules (weighed (selects_of rules) query)
 says_case r c q rules catalogue query by over_text of =
     let over : query.catalogue ≡ catalogue = keeps_catalogue catalogue q query of.read.spells in
     record {
       of_rules = says_rules r rules by;
+      spelled = query;
       of_catalogue = subst (λ (x : CatalogueTree). SpellsCatalogue c x) (sym over) over_text.read.spells;
       of_query = subst (λ (x : CatalogueTree). SpellsQuery x q query) (sym over) of.read.spells;
-      formed = of.read.formed;
+      by_rules = refl;
+      formed = weighed_formed (selects_of rules) query of.read.formed;
     }
 
 one_case : (r c q : List ℕ) (a b : RuleFile) (x y : QueryTree) → SaysCase r c q a x → SaysCase r c q b y → (a ≡ b) × (x ≡ y)
 one_case r c q a b x y p p' =
-    let catalogues : x.catalogue ≡ y.catalogue = one_catalogue c x.catalogue y.catalogue p.of_catalogue p'.of_catalogue in
-    let of : SpellsQuery y.catalogue q x = subst (λ (k : CatalogueTree). SpellsQuery k q x) catalogues p.of_query in
-    (one_rule_file r a b p.of_rules.of_rules p'.of_rules.of_rules, one_query y.catalogue q x y of p'.of_query)
+    let v = p.spelled in
+    let w = p'.spelled in
+    let catalogues : v.catalogue ≡ w.catalogue = one_catalogue c v.catalogue w.catalogue p.of_catalogue p'.of_catalogue in
+    let of : SpellsQuery w.catalogue q v = subst (λ (k : CatalogueTree). SpellsQuery k q v) catalogues p.of_query in
+    let queries : v ≡ w = one_query w.catalogue q v w of p'.of_query in
+    let rules : a ≡ b = one_rule_file r a b p.of_rules.of_rules p'.of_rules.of_rules in
+    let both : weighed (selects_of a) v ≡ weighed (selects_of b) w = (λ i. weighed (selects_of (rules i)) (queries i)) in
+    (rules, p.by_rules ∙ both ∙ sym p'.by_rules)
 
 same_pair : (a b : RuleFile × QueryTree) → (a.0 ≡ b.0) × (a.1 ≡ b.1) → a ≡ b
 same_pair (a, x) (b, y) e =

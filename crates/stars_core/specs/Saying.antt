@@ -3,6 +3,7 @@ use Rattle.std.specs.Prelude.{◌≡◌, ℕ, List, [], ◌∷◌, ◌++◌, sli
 use Rattle.std.specs.Option.{option_map_or}
 use Rattle.star_model.specs.Accepted.{IsAccepted}
 use Rattle.star_model.specs.Derivations.{IsLeast}
+use Rattle.star_model.specs.Selectivity.{selects_of, weighed}
 use Rattle.star_model.specs.WellFormed.{WellFormedQuery}
 use Rattle.star_model.specs.declared.rules.RuleFile.{RuleFile}
 use Rattle.star_model.specs.declared.query.Query.{Query as QueryTree}
@@ -44,11 +45,13 @@ pub record SaysRules (r : List ℕ) (rules : RuleFile) : Type 0 where
   pub fits : KeepsLexemeLimits rules
   pub accepted : IsAccepted rules
 
--- the three texts say these rules and this query
+-- the three texts say these rules and this query, whose predicates have the selectivities that the rules give
 pub record SaysCase (r c q : List ℕ) (rules : RuleFile) (query : QueryTree) : Type 0 where
   pub of_rules : SaysRules r rules
-  pub of_catalogue : SpellsCatalogue c query.catalogue
-  pub of_query : SpellsQuery query.catalogue q query
+  pub spelled : QueryTree
+  pub of_catalogue : SpellsCatalogue c spelled.catalogue
+  pub of_query : SpellsQuery spelled.catalogue q spelled
+  pub by_rules : query ≡ weighed (selects_of rules) spelled
   pub formed : WellFormedQuery query
 
 -- what is said to each command

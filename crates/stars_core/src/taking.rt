@@ -71,5 +71,5 @@ pub fn take_case<S: Shelf>(
     let rules = take_rules(alloc, shelf, rules)?;
     let catalogue = take_catalogue(alloc, shelf, catalogue)?;
     let query = take_query(alloc, shelf, &catalogue, query)?;
-    Ok(Case { rules, query })
+    Ok(Case::new(rules, query))
 }

@@ -19,7 +19,7 @@ fn judge_case(alloc: Global, rules: &[u8], catalogue: &[u8], query: &[u8]) -> Re
     let rules = judge_rules(alloc, rules)?;
     let catalogue = judge_catalogue(alloc, catalogue)?;
     let query = judge_query(alloc, &catalogue, query)?;
-    Ok(Case { rules, query })
+    Ok(Case::new(rules, query))
 }
 
 /// The canonical text of a rule file, or its first fault.

@@ -46,4 +46,4 @@ returns-clause-taken g c =
     let third = after_query (g.S.Shelf.state c.args.shelf.now) (g.S.Shelf.state c.take_catalogue.new.shelf) (g.S.Shelf.state c.take_query.new.shelf)
     c.in_ok-query.ensures.goes c.args.rules.now c.args.catalogue.now c.args.query.now r.1 k.1 c.in_ok-catalogue.catalogue k.3 second
     q.1 c.in_ok-query.query q.0 q.2 q.3 in
-    (r.1, k.1, q.1, third, says_case r.1 k.1 q.1 c.in_ok-rules.rules c.in_ok-catalogue.catalogue c.in_ok-query.query r.3 k.3 q.3)
+    (r.1, k.1, q.1, third, rw (c.new.ensures.rules, c.new.ensures.query) (says_case r.1 k.1 q.1 c.in_ok-rules.rules c.in_ok-catalogue.catalogue c.in_ok-query.query r.3 k.3 q.3))

@@ -25,5 +25,5 @@ returns-in_err-query c =
 pub returns : goal.returns
 returns c = (
   three_pass c.args.rules.now c.args.catalogue.now c.args.query.now c.in_ok-rules.rules c.in_ok-catalogue.catalogue c.in_ok-query.query c.in_ok-rules.ensures c.in_ok-catalogue.ensures c.in_ok-query.ensures,
-  says_case c.args.rules.now c.args.catalogue.now c.args.query.now c.in_ok-rules.rules c.in_ok-catalogue.catalogue c.in_ok-query.query c.in_ok-rules.ensures c.in_ok-catalogue.ensures c.in_ok-query.ensures,
+  rw (c.new.ensures.rules, c.new.ensures.query) (says_case c.args.rules.now c.args.catalogue.now c.args.query.now c.in_ok-rules.rules c.in_ok-catalogue.catalogue c.in_ok-query.query c.in_ok-rules.ensures c.in_ok-catalogue.ensures c.in_ok-query.ensures),
 )
