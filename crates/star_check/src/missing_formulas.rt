@@ -79,7 +79,8 @@ fn is_of_glue(flavour: Flavour) -> bool
         | Flavour::Probe
         | Flavour::JoinNl
         | Flavour::JoinMerge
-        | Flavour::JoinHash => false,
+        | Flavour::JoinHash
+        | Flavour::Intersect => false,
     }
 }
 
@@ -112,7 +113,7 @@ fn lacks_formula(rules: &RuleFile, flavour: Flavour) -> bool
 }
 
 // The operators in the order of their table.
-const FLAVOURS: [Flavour; 11] = [
+const FLAVOURS: [Flavour; 12] = [
     Flavour::AccessHeap,
     Flavour::AccessIndex,
     Flavour::Get,
@@ -124,6 +125,7 @@ const FLAVOURS: [Flavour; 11] = [
     Flavour::JoinNl,
     Flavour::JoinMerge,
     Flavour::JoinHash,
+    Flavour::Intersect,
 ];
 
 fn first_lacking(rules: &RuleFile) -> Option<Flavour>
