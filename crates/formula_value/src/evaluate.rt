@@ -26,6 +26,10 @@ fn entry_of(vars: &Vars, variable: Var) -> Num
         Var::Cpu => vars.cpu,
         Var::Net => vars.net,
         Var::One => Num::cut(1),
+        Var::Distinct1 => vars.distinct1,
+        Var::Rows1 => vars.rows1,
+        Var::Distinct2 => vars.distinct2,
+        Var::Rows2 => vars.rows2,
     }
 }
 
