@@ -28,7 +28,7 @@ use Rattle.spelling.specs.Firsts.{NoneFrom, NoneHas}
 use Rattle.spelling.specs.Limits.{HasLongWord}
 use Rattle.star_model.specs.Names.{place_of, is_among}
 use Rattle.spelling.specs.Names.{all_of}
-use Rattle.query_graph.specs.Queries.{ColumnName, Item, Side, OfColumn, OfConstant, Whole, Negative, Quoted, Constant, Comparison, QueryStatement, quantifier_name, quantifier_of, column_of, columns_of, operand_of, predicate_of, site_of, value_of, own_name, column_lexemes, item_lexemes, cmp_lexeme, side_lexemes, comparison_lexemes, columns_lexemes, where_lexemes, order_lexemes, at_lexemes, query_lexemes}
+use Rattle.query_graph.specs.Queries.{ColumnName, Item, Side, OfColumn, OfConstant, Whole, Negative, Quoted, Constant, Comparison, QueryStatement, quantifier_name, quantifier_of, column_of, columns_of, operand_of, site_of, value_of, own_name, column_lexemes, item_lexemes, cmp_lexeme, side_lexemes, comparison_lexemes, columns_lexemes, where_lexemes, order_lexemes, at_lexemes, query_lexemes}
 use Rattle.star_model.specs.declared.query.Cmp.{Cmp}
 use Rattle.star_model.specs.declared.query.Cmp.TheVariants as cmp
 use Rattle.query_graph.specs.Faults.{column_names, quantifier_names, is_table, side_columns, comparison_columns, columns_named, has_column, NamesUnknown, DefinesTwice, Beyond, IsGreatSide, HasGreatConstant, HasTwoTypes}
