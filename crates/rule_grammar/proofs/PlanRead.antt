@@ -1,5 +1,5 @@
 -- What spells a plan is read as it, whatever follows.
-use Rattle.std.proofs.Common.{◌≡◌, ℕ, zero, suc, ◌+◌, ◌<◌, Bool, true, false, if◌then◌else◌, List, [], ◌∷◌, ◌++◌, map, length, Some, None, codes, refl, sym, ap, ◌∙◌, arith, length-append, eq-eqb}
+use Rattle.std.proofs.Common.{◌≡◌, ℕ, zero, suc, ◌+◌, ◌<◌, Bool, true, false, if◌then◌else◌, List, [], ◌∷◌, ◌++◌, map, length, Some, codes, refl, sym, ap, ◌∙◌, arith, length-append, eq-eqb}
 use Rattle.std.specs.Prelude.{nat_eq}
 use Rattle.star_model.specs.PlanExprCases as expr
 use Rattle.star_model.specs.Vectors.{same_numbers}
@@ -55,6 +55,9 @@ some_arguments flavour.JoinMerge takes = absurd (omega (arith, takes))
 some_arguments flavour.JoinHash takes = absurd (omega (arith, takes))
 some_arguments flavour.Intersect takes = absurd (omega (arith, takes))
 
+not_zero : (n m : ℕ) → suc m ≡ n → nat_eq n 0 ≡ false
+not_zero n m is = grind arith
+
 has_item : {A : Type 0} (xs : List A) → 0 < length xs → HasItem xs
 has_item [] h = absurd (omega arith)
 has_item (x ∷ xs) h = tt
@@ -85,8 +88,7 @@ module _ (scope : Scope) (n : ℕ) (value : Reader ValueExpr) (one : IsRead valu
   unfolding more_arguments_at
   more_read k f [] rest is few = rw (eq-eqb (arguments_of f) 0 (sym is.count)) refl
   more_read k f (x ∷ xs) rest is few =
-      let some : nat_eq (arguments_of f) 0 ≡ false = rw (sym is.count) refl in
-      rw some (own_read k f (x ∷ xs) rest tt is few)
+      rw (not_zero (arguments_of f) (length xs) is.count) (own_read k f (x ∷ xs) rest tt is few)
 
   reference_read : (star : List ℕ) (xs : List ValueExpr) (rest : List Lexeme) → HasItem xs → Every (IsValue scope) xs → length (values xs) < n
       → reference_at value star (bracketed (values xs) ++ rest) ≡ Some (plain.Reference star xs, rest)

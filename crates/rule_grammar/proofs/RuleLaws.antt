@@ -134,5 +134,5 @@ one_rule_file text a b p q =
     let same = behind_version (nat_eq a.version 2) p.statements q.statements lists in
     let define = subst (λ v. SpellsDefinitions v (1 + length (version_statements v)) q.statements b.selects b.formulas b.stars) (sym version) q.define in
     let one = one_by_one b.selects b.formulas b.stars p.define (
-        subst (λ l. SpellsDefinitions a.version (1 + length (version_statements a.version)) l b.selects b.formulas b.stars) (sym same) define) in
+    subst (λ l. SpellsDefinitions a.version (1 + length (version_statements a.version)) l b.selects b.formulas b.stars) (sym same) define) in
     λ i. record { version = version i; selects = one.0 i; formulas = one.1 i; stars = one.2 i }

@@ -98,8 +98,8 @@ written {version} (spec.star {number} {lexemes} {s} {selects} {formulas} {stars}
     let later = rising h (s.statement + 1) (omega (arith, p.number)) in
     let both = every_both From' (map OfSelect selects) (map OfFormula formulas) later.0 later.1 in
     let e = ap in_order (sym (append_assoc (map OfSelect selects) (map OfFormula formulas) (OfStar s ∷ map OfStar stars)))
-        ∙ first_of_all (OfStar s) before (map OfStar stars) both later.2
-        ∙ ap (λ l. OfStar s ∷ in_order l) (append_assoc (map OfSelect selects) (map OfFormula formulas) (map OfStar stars)) in
+    ∙ first_of_all (OfStar s) before (map OfStar stars) both later.2
+    ∙ ap (λ l. OfStar s ∷ in_order l) (append_assoc (map OfSelect selects) (map OfFormula formulas) (map OfStar stars)) in
     subst (λ l. SpellsDefinitions version number (map definition_lexemes l) selects formulas (s ∷ stars)) (sym e) (spec.star (own_star version number lexemes s p) (written h))
 
 -- where some text spells the rule file, so does each text with its own statements
@@ -120,10 +120,18 @@ formed_select : (version n : ℕ) (lexemes : List Lexeme) (d : SelectDef) → Sp
 formed_select version n lexemes d p h =
     let k = subst Formed p.are h in
     let parts = k.1.1.1 in
-    let den = every_back IsLexeme p.num (Word (codes "per") ∷ p.den) parts in
-    (k.0, (k.1.0, (k.1.1.0, both (formula_lexemes d.num) (Word (codes "per") ∷ formula_lexemes d.den)
-        (formed_formula select_variables p.num d.num p.spelled_num (every_front IsLexeme p.num (Word (codes "per") ∷ p.den) parts))
-        (den.0, formed_formula select_variables p.den d.den p.spelled_den den.1))))
+    let den = every_back IsLexeme p.num (Word (codes "per") ∷ p.den) parts in (
+      k.0,
+      (
+        k.1.0,
+        (
+          k.1.1.0,
+          both (formula_lexemes d.num) (Word (codes "per") ∷ formula_lexemes d.den)
+              (formed_formula select_variables p.num d.num p.spelled_num (every_front IsLexeme p.num (Word (codes "per") ∷ p.den) parts))
+              (den.0, formed_formula select_variables p.den d.den p.spelled_den den.1),
+        ),
+      ),
+    )
 
 formed_def : (version n : ℕ) (lexemes : List Lexeme) (d : FormulaDef) → SpellsFormulaDef version n lexemes d → Formed lexemes → Formed (formula_def_lexemes d)
 formed_def version n lexemes d p h =

@@ -1,7 +1,6 @@
 -- The head of a selectivity's statement is read as it is spelled, and its two formulas part at the first `per`.
-use Rattle.std.proofs.Common.{◌≡◌, ◌↔◌, ℕ, Bool, true, false, if◌then◌else◌, List, [], ◌∷◌, ◌++◌, Option, Some, None, option_map, refl, sym, ap, ◌∙◌, codes}
+use Rattle.std.proofs.Common.{◌≡◌, ◌↔◌, Bool, true, false, if◌then◌else◌, List, [], ◌∷◌, ◌++◌, Option, Some, None, option_map, refl, sym, ap, ◌∙◌, codes}
 use Rattle.std.proofs.lemmas.Option.{some_pair_parts}
-use Rattle.star_model.specs.Vectors.{same_numbers}
 use Rattle.star_model.specs.Every.{Every}
 use Rattle.star_model.specs.declared.rules.Class.{Class}
 use Rattle.spelling.specs.Lexemes.{Lexeme, Word, Number, Text, Symbol, equals}
@@ -60,23 +59,23 @@ is_no_per lexeme other = at (is_per lexeme) refl
 pub parts_are_found : (num den : List Lexeme) → Every (λ l. l ≡ Word (codes "per") → ⊥) num → parted_at_per (num ++ Word (codes "per") ∷ den) ≡ Some (num, den)
 parts_are_found [] den none = refl
 parts_are_found (lexeme ∷ later) den none =
-    rw (is_no_per lexeme none.0) (ap (λ found. option_map (λ (parts : List Lexeme × List Lexeme). (lexeme ∷ parts.0, parts.1)) found) (parts_are_found later den none.1))
+    rw (is_no_per lexeme none.0) (ap (λ found. option_map {U = List Lexeme × List Lexeme} (λ (parts : List Lexeme × List Lexeme). (lexeme ∷ parts.0, parts.1)) found) (parts_are_found later den none.1))
 
 pub found_parts : (lexemes num den : List Lexeme) → parted_at_per lexemes ≡ Some (num, den) → lexemes ≡ num ++ Word (codes "per") ∷ den
 found_parts [] num den found = absurd cc
-found_parts (lexeme ∷ later) num den found = at (is_per lexeme) refl found
+found_parts (lexeme ∷ later) num den found = at (is_per lexeme) refl found (λ n d is. found_parts later n d is)
   where
-    behind : (parts : Option (List Lexeme × List Lexeme)) → parted_at_per later ≡ parts → option_map (λ (p : List Lexeme × List Lexeme). (lexeme ∷ p.0, p.1)) parts ≡ Some (num, den)
-        → lexeme ∷ later ≡ num ++ Word (codes "per") ∷ den
-    behind None is e = absurd cc
-    behind (Some p) is e =
+    behind : (parts : Option (List Lexeme × List Lexeme)) → parted_at_per later ≡ parts → option_map {U = List Lexeme × List Lexeme} (λ (p : List Lexeme × List Lexeme). (lexeme ∷ p.0, p.1)) parts ≡ Some (num, den)
+        → ((n d : List Lexeme) → parted_at_per later ≡ Some (n, d) → later ≡ n ++ Word (codes "per") ∷ d) → lexeme ∷ later ≡ num ++ Word (codes "per") ∷ den
+    behind None is e more = absurd cc
+    behind (Some p) is e more =
         let end = some_pair_parts (lexeme ∷ p.0) num p.1 den e in
-        ap (λ l. lexeme ∷ l) (found_parts later p.0 p.1 is) ∙ (λ i. end.0 i ++ Word (codes "per") ∷ end.1 i)
+        ap (λ l. lexeme ∷ l) (more p.0 p.1 is) ∙ (λ i. end.0 i ++ Word (codes "per") ∷ end.1 i)
 
     at : (b : Bool) → is_per lexeme ≡ b
-        → if◌then◌else◌ {A = Option (List Lexeme × List Lexeme)} b (Some ([], later)) (option_map (λ (p : List Lexeme × List Lexeme). (lexeme ∷ p.0, p.1)) (parted_at_per later)) ≡ Some (num, den)
-        → lexeme ∷ later ≡ num ++ Word (codes "per") ∷ den
-    at true is e =
+        → if◌then◌else◌ {A = Option (List Lexeme × List Lexeme)} b (Some ([], later)) (option_map {U = List Lexeme × List Lexeme} (λ (p : List Lexeme × List Lexeme). (lexeme ∷ p.0, p.1)) (parted_at_per later)) ≡ Some (num, den)
+        → ((n d : List Lexeme) → parted_at_per later ≡ Some (n, d) → later ≡ n ++ Word (codes "per") ∷ d) → lexeme ∷ later ≡ num ++ Word (codes "per") ∷ den
+    at true is e more =
         let end = some_pair_parts [] num later den e in
         ap (λ l. l ∷ later) (is_the_word lexeme is) ∙ (λ i. end.0 i ++ Word (codes "per") ∷ end.1 i)
-    at false is e = behind (parted_at_per later) refl e
+    at false is e more = behind (parted_at_per later) refl e more

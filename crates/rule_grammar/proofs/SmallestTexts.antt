@@ -1,9 +1,12 @@
 -- What the smallest texts spell: the smallest rule file, a catalogue of one site and one table, and a query for one column.
-use Rattle.std.proofs.Common.{◌≡◌, ℕ, true, List, [], refl}
+use Rattle.std.proofs.Common.{◌≡◌, ℕ, ◌+◌, Bool, true, ◌&&◌, nat_eq, List, [], ◌∷◌, ◌++◌, map, refl, subst, eqb-true}
+use Rattle.std.proofs.lemmas.Bool.{and_parts}
 use Rattle.star_model.specs.declared.rules.FormulaDef.{FormulaDef}
 use Rattle.star_model.specs.declared.rules.SelectDef.{SelectDef}
+use Rattle.star_model.specs.declared.rules.StarDef.{StarDef}
+use Rattle.star_model.specs.Monotone.{nodes}
 use Rattle.star_model.specs.FlavourWords.{is_flavour_of}
-use Rattle.spelling.specs.Lexemes.{IsStatements}
+use Rattle.spelling.specs.Lexemes.{Lexeme, IsStatements}
 use Rattle.cost_formula.specs.FormulaCanonical.{words_of, rank_of}
 use Rattle.cost_formula.specs.Formulas.{formula_lexeme}
 use Rattle.rule_grammar.specs.Values.{value_lexemes}
@@ -29,17 +32,29 @@ canonical_select_def d num den = record {
   spelled_den = canonical_select d.den den;
 }
 
+-- whether the formulas have numbers from this one on, one after the other, and can stand in a rule file of version 1
+abbrev follow : ℕ → List FormulaDef → Bool
+follow n [] = true
+follow n (d ∷ later) = (nat_eq d.statement n && (is_flavour_of 1 d.flavour && names_only is_of_cost d.formula)) && follow (n + 1) later
+
+abbrev number_behind : ℕ → List FormulaDef → ℕ
+number_behind n [] = n
+number_behind n (d ∷ later) = number_behind (n + 1) later
+
+formulas_first : (n : ℕ) (fs : List FormulaDef) (later : List (List Lexeme)) (ss : List StarDef) → follow n fs ≡ true → SpellsDefinitions 1 (number_behind n fs) later [] [] ss
+    → SpellsDefinitions 1 n (map formula_def_lexemes fs ++ later) [] fs ss
+formulas_first n [] later ss are define = define
+formulas_first n (d ∷ fs) later ss are define =
+    let parts = and_parts (nat_eq d.statement n && (is_flavour_of 1 d.flavour && names_only is_of_cost d.formula)) (follow (n + 1) fs) are in
+    let own = and_parts (nat_eq d.statement n) (is_flavour_of 1 d.flavour && names_only is_of_cost d.formula) parts.0 in
+    let written = and_parts (is_flavour_of 1 d.flavour) (names_only is_of_cost d.formula) own.1 in
+    let number = eqb-true d.statement n own.0 in
+    spec.formula (subst (λ m. SpellsFormulaDef 1 m (formula_def_lexemes d) d) number (canonical_formula_def 1 d written.0 written.1)) (formulas_first (n + 1) fs later ss parts.1 define)
+
 tiny_defines : SpellsDefinitions 1 1 tiny_lexemes [] tiny_rules.formulas tiny_rules.stars
-unfolding tiny_lexemes tiny_rules words_of rank_of formula_lexeme value_lexemes IsValue plan_lexemes IsPlan
+unfolding tiny_lexemes tiny_rules words_of rank_of formula_lexeme value_lexemes IsValue plan_lexemes IsPlan nodes
 tiny_defines =
-    spec.formula (canonical_formula_def 1 _ refl refl)
-    (spec.formula (canonical_formula_def 1 _ refl refl)
-    (spec.formula (canonical_formula_def 1 _ refl refl)
-    (spec.formula (canonical_formula_def 1 _ refl refl)
-    (spec.formula (canonical_formula_def 1 _ refl refl)
-    (spec.formula (canonical_formula_def 1 _ refl refl)
-    (spec.formula (canonical_formula_def 1 _ refl refl)
-    (spec.formula (canonical_formula_def 1 _ refl refl)
+    formulas_first 1 tiny_rules.formulas _ _ refl
     (spec.star (record {
       number = refl;
       are = refl;
@@ -61,7 +76,7 @@ tiny_defines =
         some_alternatives = tt;
         alternatives = (record { ranges = tt; condition = tt; body = record { known = refl; inputs = refl; count = refl; values = ((refl, refl), ((refl, refl), tt)) } }, tt);
       };
-    }) spec.none)))))))))
+    }) spec.none))
 
 pub tiny_is_spelled : (text : List ℕ) → IsStatements text tiny_lexemes → SpellsRules text tiny_rules
 unfolding tiny_rules

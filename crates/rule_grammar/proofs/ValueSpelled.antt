@@ -12,7 +12,6 @@ use Rattle.rule_grammar.specs.declared.words.RequirementHead.{RequirementHead}
 use Rattle.rule_grammar.specs.declared.words.RequirementHead.TheVariants as requirement
 use Rattle.rule_grammar.specs.declared.words.ValuedHead.{ValuedHead}
 use Rattle.spelling.specs.Lexemes.{Lexeme, Word, left_square, right_square, left_bracket, right_bracket, comma}
-use Rattle.star_model.specs.Names.{is_among}
 use Rattle.spelling.specs.Reading.{Reader, ◌>>=◌, ◌>>◌, pure, the_symbol, a_word}
 use Rattle.star_model.specs.WellFormedRules.{Scope, is_reserved, place_among, IsValue}
 use Rattle.rule_grammar.specs.Values.{value_lexemes, in_squares}

@@ -104,7 +104,6 @@ pub data SpellsDefinitions (version : ℕ) : ℕ → List (List Lexeme) → List
 
 pub record SpellsRules (text : List ℕ) (rules : RuleFile) : Type 0 where
   pub version : (nat_eq rules.version 1 || nat_eq rules.version 2) ≡ true
-
   -- behind the one that says the version
   pub statements : List (List Lexeme)
   pub are : IsStatements text (version_statements rules.version ++ statements)

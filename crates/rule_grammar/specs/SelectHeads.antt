@@ -1,5 +1,5 @@
 -- How the head of a selectivity's statement is read, and where its two formulas part.
-use Rattle.std.specs.Prelude.{ℕ, Bool, false, List, [], ◌∷◌, Option, Some, None, option_map, codes, if◌then◌else◌}
+use Rattle.std.specs.Prelude.{Bool, false, List, [], ◌∷◌, Option, Some, None, option_map, codes, if◌then◌else◌}
 use Rattle.star_model.specs.Vectors.{same_numbers}
 use Rattle.star_model.specs.declared.rules.Class.{Class}
 use Rattle.spelling.specs.Lexemes.{Lexeme, Word, Number, Text, Symbol}

@@ -74,7 +74,7 @@ pub fn parts_of_stars_are_read()
 pub fn formula_heads_are_read()
     ensures { (version : ℕ) (lexemes : List Lexeme) (head : FormulaHead) (rest : List Lexeme)
         → (formula_head_at version lexemes ≡ Some (head, rest))
-            ↔ (is_flavour_of version head.flavour ≡ true) × (lexemes ≡ Word (which_word head.which) ∷ Word (flavour_word head.flavour) ∷ equals ∷ rest) }
+        ↔ (is_flavour_of version head.flavour ≡ true) × (lexemes ≡ Word (which_word head.which) ∷ Word (flavour_word head.flavour) ∷ equals ∷ rest) }
 {}
 
 /// The head of a selectivity's statement is read as it is spelled, and nothing else is read.
