@@ -1,5 +1,5 @@
 // The query and the formulas of a table's files.
-ghost use Rattle.star_model.specs.WellFormed.{WellFormedCatalogue};
+ghost use Rattle.star_model.specs.WellFormed.{WellFormedCatalogue, WellFormedQuery};
 
 use crate::questions::asked;
 use catalogue::read_catalogue;
@@ -8,6 +8,7 @@ use query_graph::read_query;
 use row_tables::Table;
 use star_model::catalogue::Catalogue;
 use star_model::costs::Costs;
+use star_model::query::Query;
 use star_model::rules::RuleFile;
 use star_model::selects::Selects;
 use star_syntax::read_rules;
@@ -51,8 +52,16 @@ fn formulas_in(alloc: Global, rules: &str) -> Result<(Costs, Selects), AllocErro
     }
 }
 
+// The query, with these selectivities.
+fn weighed(mut query: Query, selects: &Selects) -> Query
+    requires { WellFormedQuery query }
+    ensures { WellFormedQuery result }
+{
+    weigh(&mut query, selects);
+    query
+}
+
 // What comes of a text over a catalogue and the text of a query.
-#[tactic(auto, using(star_model::proofs::Laws::weighed_formed))]
 fn answer_over(
     alloc: Global,
     catalogue: &Catalogue,
@@ -67,8 +76,8 @@ fn answer_over(
     }
     let (costs, selects) = formulas_in(alloc, table.file(2, text))?;
     match read_query(alloc, catalogue, query.as_bytes()) {
-        Ok(mut query) => {
-            weigh(&mut query, &selects);
+        Ok(query) => {
+            let query = weighed(query, &selects);
             asked(alloc, table.kind.as_str(), &query, &costs, text)
         }
         Err(fault) => format!(in alloc; "{fault:?}"),
