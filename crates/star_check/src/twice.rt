@@ -103,7 +103,7 @@ fn is_formula_twice(rules: &RuleFile, definition: &FormulaDef) -> bool
         .any(|other| defines_before(other, definition))
 }
 
-fn selects_before(other: &SelectDef, definition: &SelectDef) -> bool
+fn weighs_before(other: &SelectDef, definition: &SelectDef) -> bool
     ensures { result ≡ (nat_lt other.now.statement definition.now.statement && same_class other.now.class definition.now.class) }
 {
     other.statement < definition.statement && other.class == definition.class
@@ -116,7 +116,7 @@ fn is_select_twice(rules: &RuleFile, definition: &SelectDef) -> bool
         .selects
         .as_slice()
         .iter()
-        .any(|other| selects_before(other, definition))
+        .any(|other| weighs_before(other, definition))
 }
 
 fn first_star_twice(rules: &RuleFile) -> Option<u32>
