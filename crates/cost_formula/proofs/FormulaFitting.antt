@@ -1,6 +1,5 @@
 -- The numbers of a formula are those of the words that spell it.
-use Rattle.std.proofs.Common.{ℕ, ◌^◌, ◌<◌, Bool, true, false, if◌then◌else◌, List, [], ◌∷◌, map, codes, refl}
-use Rattle.star_model.specs.Vectors.{same_numbers}
+use Rattle.std.proofs.Common.{◌^◌, ◌<◌, List, [], ◌∷◌, map, codes, refl}
 use Rattle.star_model.specs.declared.formula.Formula.{Formula}
 use Rattle.star_model.specs.declared.formula.Formula.TheVariants as f
 use Rattle.star_model.specs.declared.formula.Test.TheVariants as test
@@ -12,13 +11,13 @@ use Rattle.cost_formula.specs.declared.formula_word.FormulaWord.TheVariants as w
 use Rattle.spelling.specs.Lexemes.{Lexeme, Word, Number, Text, Symbol}
 use Rattle.star_model.specs.Every.{Every}
 use Rattle.spelling.specs.Layout.{IsLexeme}
-use Rattle.spelling.specs.Names.{found_in}
 use Rattle.cost_formula.specs.FormulaGrammar as g
 use Rattle.cost_formula.specs.FormulaGrammar.{Rank, Spells}
 use Rattle.cost_formula.specs.FormulaCanonical.{words_of}
-use Rattle.cost_formula.specs.Formulas.{formula_word, formula_lexeme, formula_lexemes, formula_symbols, formula_keywords, variable_rows, all_variables, variable_word, SpellsFormula}
+use Rattle.cost_formula.specs.Formulas.{formula_word, formula_lexeme, formula_lexemes, variable_word, SpellsIn}
 use Rattle.spelling.specs.FormedLexemes.{Formed, every_both, every_front, every_back, given_word, given_symbol}
 use Rattle.cost_formula.proofs.FormulaCanon.{canonical_spells}
+use Rattle.cost_formula.proofs.FormulaWords.{every, word_has, symbol_has}
 
 -- a number that a token can write
 FitsWord : FormulaWord → Type 0
@@ -81,24 +80,17 @@ all_fit (g.conditional {a} {b} {c} {d} t p q m n) h =
 
 -- ---- the words of lexemes, and the lexemes of words
 
-found_fits : (rows : List (List ℕ × FormulaWord)) (bytes : List ℕ) → Every (λ row. FitsWord row.1) rows → FitsWord (found_in w.Other rows bytes)
-unfolding FitsWord
-found_fits [] bytes h = tt
-found_fits (row ∷ rows) bytes h = at (same_numbers row.0 bytes) (found_fits rows bytes h.1) where
-  at : (b : Bool) → FitsWord (found_in w.Other rows bytes) → FitsWord (if b then row.1 else found_in w.Other rows bytes)
-  at true later = h.0
-  at false later = later
+module _ (variables : List Var) where
+  word_fits : (x : Lexeme) → IsLexeme x → FitsWord (formula_word variables x)
+  unfolding FitsWord formula_word
+  word_fits (Word bytes) h = word_has FitsWord tt variables bytes (every (λ x. FitsWord (w.Variable x)) (λ x. tt) variables) (tt, (tt, (tt, (tt, (tt, tt)))))
+  word_fits (Number n) h = h
+  word_fits (Text bytes) h = tt
+  word_fits (Symbol bytes) h = symbol_has FitsWord tt variables bytes (tt, (tt, (tt, (tt, (tt, (tt, (tt, (tt, (tt, (tt, tt))))))))))
 
-word_fits : (x : Lexeme) → IsLexeme x → FitsWord (formula_word x)
-unfolding FitsWord formula_word
-word_fits (Word bytes) h = found_fits (variable_rows all_variables formula_keywords) bytes (tt, (tt, (tt, (tt, (tt, (tt, (tt, (tt, (tt, (tt, (tt, (tt, (tt, (tt, (tt, (tt, (tt, (tt, (tt, (tt, (tt, tt)))))))))))))))))))))
-word_fits (Number n) h = h
-word_fits (Text bytes) h = tt
-word_fits (Symbol bytes) h = found_fits formula_symbols bytes (tt, (tt, (tt, (tt, (tt, (tt, (tt, (tt, (tt, (tt, tt))))))))))
-
-words_fit : (lexemes : List Lexeme) → Formed lexemes → All (map formula_word lexemes)
-words_fit [] h = tt
-words_fit (x ∷ lexemes) h = (word_fits x h.0, words_fit lexemes h.1)
+  words_fit : (lexemes : List Lexeme) → Formed lexemes → All (map (formula_word variables) lexemes)
+  words_fit [] h = tt
+  words_fit (x ∷ lexemes) h = (word_fits x h.0, words_fit lexemes h.1)
 
 a_variable : (x : Var) → IsLexeme (Word (variable_word x))
 a_variable var.Cost1 = given_word (codes "cost1") refl
@@ -117,6 +109,10 @@ a_variable var.Preds = given_word (codes "preds") refl
 a_variable var.Cpu = given_word (codes "cpu") refl
 a_variable var.Net = given_word (codes "net") refl
 a_variable var.One = given_word (codes "one") refl
+a_variable var.Distinct1 = given_word (codes "distinct1") refl
+a_variable var.Rows1 = given_word (codes "rows1") refl
+a_variable var.Distinct2 = given_word (codes "distinct2") refl
+a_variable var.Rows2 = given_word (codes "rows2") refl
 
 a_formula_lexeme : (x : FormulaWord) → FitsWord x → IsLexeme (formula_lexeme x)
 unfolding FitsWord formula_lexeme
@@ -143,5 +139,5 @@ lexemes_formed : (ws : List FormulaWord) → All ws → Formed (map formula_lexe
 lexemes_formed [] h = tt
 lexemes_formed (x ∷ ws) h = (a_formula_lexeme x h.0, lexemes_formed ws h.1)
 
-pub formed_formula : (lexemes : List Lexeme) (x : Formula) → SpellsFormula lexemes x → Formed lexemes → Formed (formula_lexemes x)
-formed_formula lexemes x p h = lexemes_formed (words_of x) (all_fit (canonical_spells x) (fits p (words_fit lexemes h)))
+pub formed_formula : (variables : List Var) (lexemes : List Lexeme) (x : Formula) → SpellsIn variables lexemes x → Formed lexemes → Formed (formula_lexemes x)
+formed_formula variables lexemes x p h = lexemes_formed (words_of x) (all_fit (canonical_spells x) (fits p (words_fit variables lexemes h)))

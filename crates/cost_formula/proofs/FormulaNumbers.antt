@@ -1,24 +1,23 @@
 -- All spellings of a formula have the same numbers.
-use Rattle.std.proofs.Common.{◌≡◌, ◌<◌, ◌⊎◌, inl, inr, ℕ, List, [], ◌∷◌, ◌++◌, Bool, true, false, map, sym, ◌∙◌, refl, subst, append-nil}
-use Rattle.std.specs.Prelude.{if◌then◌else◌}
+use Rattle.std.proofs.Common.{◌≡◌, ◌<◌, ◌⊎◌, inl, inr, ℕ, List, [], ◌∷◌, ◌++◌, map, sym, ◌∙◌, refl, subst, append-nil}
 use Rattle.std.specs.List.{flat_map}
 use Rattle.std.proofs.lemmas.Grind.{flat_map-append}
 use Rattle.star_model.specs.Numbers.{top}
-use Rattle.star_model.specs.Vectors.{same_numbers}
 use Rattle.star_model.specs.declared.formula.Formula.{Formula}
 use Rattle.star_model.specs.declared.formula.Var.{Var}
+use Rattle.star_model.specs.declared.formula.Test.TheVariants as test
 use Rattle.star_model.specs.declared.formula.Formula.TheVariants as f
 use Rattle.star_model.specs.FormulaCases.{Add, Sub, Mul, Div, Min, Max, If}
 use Rattle.cost_formula.specs.declared.formula_word.FormulaWord.{FormulaWord}
 use Rattle.cost_formula.specs.declared.formula_word.FormulaWord.TheVariants as w
 use Rattle.spelling.specs.Lexemes.{Lexeme, Word, Number, Text, Symbol}
-use Rattle.star_model.specs.Every.{Every}
-use Rattle.spelling.specs.Names.{found_in}
 use Rattle.spelling.specs.Limits.{HasGreatNumber}
 use Rattle.cost_formula.specs.FormulaGrammar as g
 use Rattle.cost_formula.specs.FormulaGrammar.{Rank, Spells}
-use Rattle.cost_formula.specs.Formulas.{formula_word, formula_lexemes, SpellsFormula, variable_rows, all_variables, formula_keywords, formula_symbols}
-use Rattle.cost_formula.proofs.FormulaLaws.{canonical_formula}
+use Rattle.cost_formula.specs.FormulaCanonical.{words_of}
+use Rattle.cost_formula.specs.Formulas.{formula_word, formula_lexeme, formula_lexemes, SpellsIn}
+use Rattle.cost_formula.proofs.FormulaCanon.{canonical_spells}
+use Rattle.cost_formula.proofs.FormulaWords.{every, word_has, symbol_has}
 
 -- ---- the numbers of words and of formulas
 
@@ -88,52 +87,55 @@ behind : (ms ns : List ℕ) → HasGreat ns → HasGreat (ms ++ ns)
 behind [] ns great = great
 behind (m ∷ ms) ns great = inr (behind ms ns great)
 
--- a great number among lexemes is one of the words that they stand for
-to_words : (lexemes : List Lexeme) → HasGreatNumber lexemes → HasGreat (numbers (map formula_word lexemes))
-unfolding formula_word
+-- a great number among the lexemes of words is one of the words
+to_words : (words : List FormulaWord) → HasGreatNumber (map formula_lexeme words) → HasGreat (numbers words)
+unfolding formula_lexeme
 to_words [] great = great
-to_words (Word bytes ∷ later) great = behind (number_in (formula_word (Word bytes))) (numbers (map formula_word later)) (to_words later great)
-to_words (Number n ∷ later) (inl great) = inl great
-to_words (Number n ∷ later) (inr great) = inr (to_words later great)
-to_words (Text bytes ∷ later) great = to_words later great
-to_words (Symbol bytes ∷ later) great = behind (number_in (formula_word (Symbol bytes))) (numbers (map formula_word later)) (to_words later great)
+to_words (w.Number n ∷ later) (inl great) = inl great
+to_words (w.Number n ∷ later) (inr great) = inr (to_words later great)
+to_words (w.Variable x ∷ later) great = to_words later great
+to_words (w.If ∷ later) great = to_words later great
+to_words (w.Then ∷ later) great = to_words later great
+to_words (w.Else ∷ later) great = to_words later great
+to_words (w.Min ∷ later) great = to_words later great
+to_words (w.Max ∷ later) great = to_words later great
+to_words (w.Test test.Lt ∷ later) great = to_words later great
+to_words (w.Test test.Le ∷ later) great = to_words later great
+to_words (w.Test test.Eq ∷ later) great = to_words later great
+to_words (w.Plus ∷ later) great = to_words later great
+to_words (w.Minus ∷ later) great = to_words later great
+to_words (w.Times ∷ later) great = to_words later great
+to_words (w.Over ∷ later) great = to_words later great
+to_words (w.Open ∷ later) great = to_words later great
+to_words (w.Close ∷ later) great = to_words later great
+to_words (w.Comma ∷ later) great = to_words later great
+to_words (w.Other ∷ later) great = to_words later great
 
 -- words and symbols stand for no number
-abbrev NoNumber : FormulaWord → Type 0
+NoNumber : FormulaWord → Type 0
 NoNumber word = number_in word ≡ []
 
-table_word : (row : List ℕ × FormulaWord) (b : Bool) (rest : FormulaWord) → NoNumber row.1 → NoNumber rest → NoNumber (if b then row.1 else rest)
-table_word row true rest p q = p
-table_word row false rest p q = q
+module _ (variables : List Var) where
+  no_number_word : (bytes : List ℕ) → number_in (formula_word variables (Word bytes)) ≡ []
+  unfolding NoNumber
+  no_number_word bytes =
+      word_has NoNumber refl variables bytes (every (λ x. NoNumber (w.Variable x)) (λ x. refl) variables) (refl, (refl, (refl, (refl, (refl, tt)))))
 
-not_found : (rows : List (List ℕ × FormulaWord)) → Every (λ row. NoNumber row.1) rows → (bytes : List ℕ) → NoNumber (found_in w.Other rows bytes)
-not_found [] none bytes = refl
-not_found (row ∷ rows) none bytes = table_word row (same_numbers row.0 bytes) (found_in w.Other rows bytes) none.0 (not_found rows none.1 bytes)
+  no_number_symbol : (bytes : List ℕ) → number_in (formula_word variables (Symbol bytes)) ≡ []
+  unfolding NoNumber
+  no_number_symbol bytes = symbol_has NoNumber refl variables bytes (refl, (refl, (refl, (refl, (refl, (refl, (refl, (refl, (refl, (refl, tt))))))))))
 
-no_variable : (xs : List Var) (rows : List (List ℕ × FormulaWord)) → Every (λ row. NoNumber row.1) rows → Every (λ row. NoNumber row.1) (variable_rows xs rows)
-no_variable [] rows none = none
-no_variable (x ∷ xs) rows none = (refl, no_variable xs rows none)
-
-no_number_word : (bytes : List ℕ) → NoNumber (formula_word (Word bytes))
-unfolding formula_word
-no_number_word bytes =
-    not_found (variable_rows all_variables formula_keywords) (no_variable all_variables formula_keywords (refl, (refl, (refl, (refl, (refl, tt)))))) bytes
-
-no_number_symbol : (bytes : List ℕ) → NoNumber (formula_word (Symbol bytes))
-unfolding formula_word
-no_number_symbol bytes = not_found formula_symbols (refl, (refl, (refl, (refl, (refl, (refl, (refl, (refl, (refl, (refl, tt)))))))))) bytes
-
-from_words : (lexemes : List Lexeme) → HasGreat (numbers (map formula_word lexemes)) → HasGreatNumber lexemes
-unfolding formula_word
-from_words [] great = great
-from_words (Word bytes ∷ later) great = from_words later (rw (no_number_word bytes) at great)
-from_words (Number n ∷ later) (inl great) = inl great
-from_words (Number n ∷ later) (inr great) = inr (from_words later great)
-from_words (Text bytes ∷ later) great = from_words later great
-from_words (Symbol bytes ∷ later) great = from_words later (rw (no_number_symbol bytes) at great)
+  from_words : (lexemes : List Lexeme) → HasGreat (numbers (map (formula_word variables) lexemes)) → HasGreatNumber lexemes
+  unfolding formula_word
+  from_words [] great = great
+  from_words (Word bytes ∷ later) great = from_words later (rw (no_number_word bytes) at great)
+  from_words (Number n ∷ later) (inl great) = inl great
+  from_words (Number n ∷ later) (inr great) = inr (from_words later great)
+  from_words (Text bytes ∷ later) great = from_words later great
+  from_words (Symbol bytes ∷ later) great = from_words later (rw (no_number_symbol bytes) at great)
 
 -- a great number that stands among the fewest brackets stands in each spelling
-pub great_numbers_stay : (lexemes : List Lexeme) (x : Formula) → SpellsFormula lexemes x → HasGreatNumber (formula_lexemes x) → HasGreatNumber lexemes
-great_numbers_stay lexemes x spells great =
-    let canonical = to_words (formula_lexemes x) great in
-    from_words lexemes (subst HasGreat (same (canonical_formula x) ∙ sym (same spells)) canonical)
+pub great_numbers_stay : (variables : List Var) (lexemes : List Lexeme) (x : Formula) → SpellsIn variables lexemes x → HasGreatNumber (formula_lexemes x) → HasGreatNumber lexemes
+great_numbers_stay variables lexemes x spells great =
+    let canonical = to_words (words_of x) great in
+    from_words variables lexemes (subst HasGreat (same (canonical_spells x) ∙ sym (same spells)) canonical)

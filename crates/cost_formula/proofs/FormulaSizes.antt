@@ -4,12 +4,13 @@ use Rattle.std.proofs.lemmas.List.{length-map}
 use Rattle.star_model.specs.Monotone.{nodes}
 use Rattle.star_model.specs.FormulaCases.{Add, Sub, Mul, Div, Min, Max, If}
 use Rattle.star_model.specs.declared.formula.Formula.{Formula}
+use Rattle.star_model.specs.declared.formula.Var.{Var}
 use Rattle.cost_formula.specs.declared.formula_word.FormulaWord.{FormulaWord}
 use Rattle.cost_formula.specs.declared.formula_word.FormulaWord.TheVariants as w
 use Rattle.spelling.specs.Lexemes.{Lexeme}
 use Rattle.cost_formula.specs.FormulaGrammar as g
 use Rattle.cost_formula.specs.FormulaGrammar.{Rank, Spells}
-use Rattle.cost_formula.specs.Formulas.{formula_word, SpellsFormula}
+use Rattle.cost_formula.specs.Formulas.{formula_word, SpellsIn}
 
 -- two lists with a word between
 between : (a b : List FormulaWord) (x : FormulaWord) → length (a ++ x ∷ b) ≡ length a + length b + 1
@@ -48,5 +49,5 @@ few (g.conditional {a = a} {b = b} {c = c} {d = d} {x = x} {y = y} {s = s} {t = 
       between c d w.Else,
     )
 
-pub few_nodes : (lexemes : List Lexeme) (x : Formula) → SpellsFormula lexemes x → length (nodes x) ≤ length lexemes
-few_nodes lexemes x h = subst (λ n. length (nodes x) ≤ n) (length-map lexemes formula_word) (few h)
+pub few_nodes : (variables : List Var) (lexemes : List Lexeme) (x : Formula) → SpellsIn variables lexemes x → length (nodes x) ≤ length lexemes
+few_nodes variables lexemes x h = subst (λ n. length (nodes x) ≤ n) (length-map lexemes (formula_word variables)) (few h)

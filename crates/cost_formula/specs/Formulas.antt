@@ -29,11 +29,20 @@ variable_word var.Preds = codes "preds"
 variable_word var.Cpu = codes "cpu"
 variable_word var.Net = codes "net"
 variable_word var.One = codes "one"
+variable_word var.Distinct1 = codes "distinct1"
+variable_word var.Rows1 = codes "rows1"
+variable_word var.Distinct2 = codes "distinct2"
+variable_word var.Rows2 = codes "rows2"
 
-abbrev pub all_variables : List Var
-all_variables =
+-- the variables of a cost formula
+abbrev pub cost_variables : List Var
+cost_variables =
     var.Cost1 ∷ var.Rescan1 ∷ var.Card1 ∷ var.Width1 ∷ var.Cost2 ∷ var.Rescan2 ∷ var.Card2 ∷ var.Width2
     ∷ var.Card ∷ var.Width ∷ var.Rows ∷ var.Pages ∷ var.Preds ∷ var.Cpu ∷ var.Net ∷ var.One ∷ []
+
+-- the variables of a formula of a selectivity
+abbrev pub select_variables : List Var
+select_variables = var.Distinct1 ∷ var.Rows1 ∷ var.Distinct2 ∷ var.Rows2 ∷ []
 
 -- the words and the symbols of formulas
 abbrev pub formula_keywords : List (List ℕ × FormulaWord)
@@ -49,15 +58,21 @@ abbrev pub variable_rows : List Var → List (List ℕ × FormulaWord) → List 
 variable_rows [] rows = rows
 variable_rows (x ∷ xs) rows = (variable_word x, w.Variable x) ∷ variable_rows xs rows
 
--- what a lexeme stands for in a formula
-unfoldable pub formula_word : Lexeme → FormulaWord
-formula_word (Number n) = w.Number n
-formula_word (Word bytes) = found_in w.Other (variable_rows all_variables formula_keywords) bytes
-formula_word (Symbol bytes) = found_in w.Other formula_symbols bytes
-formula_word (Text bytes) = w.Other
+-- what a lexeme stands for in a formula over these variables
+unfoldable pub formula_word : List Var → Lexeme → FormulaWord
+formula_word variables (Number n) = w.Number n
+formula_word variables (Word bytes) = found_in w.Other (variable_rows variables formula_keywords) bytes
+formula_word variables (Symbol bytes) = found_in w.Other formula_symbols bytes
+formula_word variables (Text bytes) = w.Other
+
+abbrev pub SpellsIn : List Var → List Lexeme → Formula → Type 0
+SpellsIn variables lexemes formula = Spells Whole (map (formula_word variables) lexemes) formula
 
 abbrev pub SpellsFormula : List Lexeme → Formula → Type 0
-SpellsFormula lexemes formula = Spells Whole (map formula_word lexemes) formula
+SpellsFormula lexemes formula = SpellsIn cost_variables lexemes formula
+
+abbrev pub SpellsSelect : List Lexeme → Formula → Type 0
+SpellsSelect lexemes formula = SpellsIn select_variables lexemes formula
 
 -- ---- how a formula is written
 

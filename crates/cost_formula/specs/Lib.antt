@@ -5,3 +5,4 @@ pub mod FormulaCanonical
 pub mod FormulaGrammar
 pub mod FormulaReading
 pub mod Formulas
+pub mod Vocabularies

@@ -1,4 +1,4 @@
-//! Cost formulas: which text spells one, how it is read and printed; and, from `formula_value`, what it comes to.
+//! Formulas of costs and of selectivities: which text spells one, how it is read and printed; and, from `formula_value`, what it comes to.
 #![tactic(auto)]
 
 mod cursor;
@@ -12,4 +12,4 @@ mod words;
 
 pub use formula_value::eval;
 pub use print::{print_formula, write_formula};
-pub use read::read_formula;
+pub use read::{read_formula, read_select};

@@ -71,6 +71,10 @@ fn variable_word(variable: Var) -> &'static [u8]
         Var::Cpu => b"cpu",
         Var::Net => b"net",
         Var::One => b"one",
+        Var::Distinct1 => b"distinct1",
+        Var::Rows1 => b"rows1",
+        Var::Distinct2 => b"distinct2",
+        Var::Rows2 => b"rows2",
     }
 }
 

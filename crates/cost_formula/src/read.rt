@@ -3,7 +3,8 @@
 ghost use Rattle.std.specs.Prelude.{◌+◌, length, IfOk, IfSome, IfNone};
 ghost use Rattle.spelling.specs.Cursors.{AreTokensOf};
 ghost use Rattle.spelling.specs.Lexemes.{lexemes_of};
-ghost use Rattle.cost_formula.specs.Formulas.{SpellsFormula};
+ghost use Rattle.cost_formula.specs.Formulas.{SpellsIn, SpellsFormula, SpellsSelect};
+ghost use Rattle.cost_formula.specs.Vocabularies.{variables_of};
 ghost use Rattle.cost_formula.specs.FormulaGrammar.{Spells, Whole};
 ghost use Rattle.cost_formula.specs.FormulaReading.{whole_at};
 ghost use Rattle.star_model.specs.declared.formula.Formula.{Formula};
@@ -12,7 +13,7 @@ ghost use Rattle.cost_formula.specs.Reading.{Reads, IsAllOf};
 use crate::cursor::{Stop, WordCursor};
 use crate::formula_word::FormulaWord;
 use crate::rules::Rules;
-use crate::words::words_of;
+use crate::words::{Vocabulary, words_of};
 use sb_text::Token;
 use star_model::formula::Formula;
 use std::alloc::{AllocError, Global};
@@ -57,7 +58,22 @@ fn read_words(alloc: Global, words: &[FormulaWord]) -> Result<Option<Formula>, A
     read_all(alloc, words)
 }
 
-/// The formula that these tokens of the source spell, or `None` where they spell none.
+// The formula over these variables that the tokens spell.
+fn read_over(
+    alloc: Global,
+    vocabulary: Vocabulary,
+    tokens: &[Token],
+    source: &[u8],
+) -> Result<Option<Formula>, AllocError>
+    requires { AreTokensOf source.now tokens.now }
+    ensures some { IfOk result (λ o. IfSome o (λ f. SpellsIn (variables_of vocabulary) (lexemes_of source.now tokens.now) f)) }
+    ensures none { IfOk result (λ o. IfNone o ((f : Formula) → SpellsIn (variables_of vocabulary) (lexemes_of source.now tokens.now) f → ⊥)) }
+{
+    let words = words_of(alloc, vocabulary, source, tokens)?;
+    read_words(alloc, words.as_slice())
+}
+
+/// The cost formula that these tokens of the source spell, or `None` where they spell none.
 ///
 /// What stands in brackets and the branches of an `if` are read by recursion. The tokens of one statement that `sb_text::tokens`
 /// gave nest brackets at most 32 deep, and they are at most 4,096, in which at most 585 `if` stand inside one another.
@@ -70,6 +86,18 @@ pub fn read_formula(
     ensures some { IfOk result (λ o. IfSome o (λ f. SpellsFormula (lexemes_of source.now tokens.now) f)) }
     ensures none { IfOk result (λ o. IfNone o ((f : Formula) → SpellsFormula (lexemes_of source.now tokens.now) f → ⊥)) }
 {
-    let words = words_of(alloc, source, tokens)?;
-    read_words(alloc, words.as_slice())
+    read_over(alloc, Vocabulary::Cost, tokens, source)
+}
+
+/// The formula of a selectivity that these tokens of the source spell, or `None` where they spell none. It is read as a cost formula is.
+pub fn read_select(
+    alloc: Global,
+    tokens: &[Token],
+    source: &[u8],
+) -> Result<Option<Formula>, AllocError>
+    requires { AreTokensOf source.now tokens.now }
+    ensures some { IfOk result (λ o. IfSome o (λ f. SpellsSelect (lexemes_of source.now tokens.now) f)) }
+    ensures none { IfOk result (λ o. IfNone o ((f : Formula) → SpellsSelect (lexemes_of source.now tokens.now) f → ⊥)) }
+{
+    read_over(alloc, Vocabulary::Selectivity, tokens, source)
 }

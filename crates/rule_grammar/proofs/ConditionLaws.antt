@@ -15,7 +15,7 @@ use Rattle.rule_grammar.specs.declared.words.Junction.TheVariants as junction
 use Rattle.spelling.specs.Lexemes.{Lexeme, Word, right_bracket, comma, joined_by, bracketed}
 use Rattle.spelling.specs.Reading.{Reader, a_word}
 use Rattle.rule_grammar.specs.Values.{value_lexemes, condition_lexemes}
-use Rattle.star_model.specs.WellFormedRules.{IsValue, IsCondition}
+use Rattle.star_model.specs.WellFormedRules.{Scope, IsValue, IsCondition}
 use Rattle.rule_grammar.specs.ValueReading.{one_at, two_at, value_at}
 use Rattle.rule_grammar.specs.ConditionReading.{unary_of, binary_of, junction_of, conditional, condition_head, condition_by, condition_at}
 use Rattle.spelling.proofs.Laws.{a_word_reads, then_reads}
@@ -28,7 +28,7 @@ use Rattle.rule_grammar.proofs.RangeLaws.{one_value_is_read, two_values_are_read
 abbrev pub Anything : List Lexeme → Type 0
 Anything r = Unit {0}
 
-module _ (scope : List (List ℕ)) where
+module _ (scope : Scope) where
   deeper : (n : ℕ) (ws : List Lexeme) → 0 < n → condition_at scope n ws ≡ condition_by scope (n - 1) (condition_at scope (n - 1)) ws
   unfolding condition_at
   deeper zero ws h = absurd (omega arith)

@@ -11,6 +11,7 @@ mod RuleHeads
 mod RuleLaws
 mod RuleWordLaws
 mod RuleWriting
+mod SelectHeadLaws
 mod SmallestTexts
 mod StarLaws
 mod StarRead

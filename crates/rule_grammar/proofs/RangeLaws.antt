@@ -9,7 +9,7 @@ use Rattle.rule_grammar.specs.declared.words.RangeHead.TheVariants as head
 use Rattle.spelling.specs.Lexemes.{Lexeme, Word, right_bracket, comma, joined_by, bracketed}
 use Rattle.spelling.specs.Reading.{a_word}
 use Rattle.rule_grammar.specs.Values.{value_lexemes, range_lexemes}
-use Rattle.star_model.specs.WellFormedRules.{IsValue, IsRange}
+use Rattle.star_model.specs.WellFormedRules.{Scope, IsValue, IsRange}
 use Rattle.rule_grammar.specs.ValueReading.{one_at, two_at, value_at, ranging, range_at, range_head}
 use Rattle.spelling.proofs.Laws.{a_word_reads, then_reads}
 use Rattle.spelling.specs.SeriesReadingCases.{Spells}
@@ -18,7 +18,7 @@ use Rattle.rule_grammar.proofs.RuleHeads.{range_word, range_of_word}
 use Rattle.rule_grammar.proofs.ValueReading.{len, value_is_read}
 use Rattle.rule_grammar.proofs.ValueSpelled.{value_is_spelled}
 
-module _ (scope : List (List ℕ)) where
+module _ (scope : Scope) where
   -- ---- values in brackets
 
   pub one_value_is_read : (v : ValueExpr) (n : ℕ) (rest : List Lexeme) → IsValue scope v → length (value_lexemes v) < n

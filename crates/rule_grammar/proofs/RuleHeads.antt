@@ -29,7 +29,7 @@ use Rattle.rule_grammar.specs.declared.words.Junction.{Junction}
 use Rattle.rule_grammar.specs.declared.words.Junction.TheVariants as junction
 use Rattle.spelling.specs.Lexemes.{Word, call}
 use Rattle.spelling.specs.Names.{found_in}
-use Rattle.star_model.specs.WellFormedRules.{IsName, IsValue, IsCondition}
+use Rattle.star_model.specs.WellFormedRules.{Scope, IsName, IsValue, IsCondition}
 use Rattle.rule_grammar.specs.Values.{in_squares, value_lexemes, condition_lexemes}
 use Rattle.rule_grammar.specs.ValueReading.{value_heads, value_head, requirement_heads, requirement_head, range_heads, range_head, constant_of, unary_of, binary_of, valued_of}
 use Rattle.rule_grammar.specs.ConditionReading as test
@@ -113,9 +113,9 @@ binary_head binary.Union = refl
 binary_head binary.Minus = refl
 binary_head binary.Meet = refl
 
-pub name_head : (name : List ℕ) → IsName name → value_head name ≡ head.Other
+pub name_head : (version : ℕ) (name : List ℕ) → IsName version name → value_head name ≡ head.Other
 unfolding value_head
-name_head name free = not_found head.Other value_heads name refl free
+name_head version name free = not_found version head.Other value_heads name refl free
 
 pub constant_lexemes : (c : ConstantHead) → value_lexemes (constant_of c) ≡ Word (constant_word c) ∷ []
 unfolding value_lexemes constant_word
@@ -142,7 +142,7 @@ binary_lexemes binary.Union v w = refl
 binary_lexemes binary.Minus v w = refl
 binary_lexemes binary.Meet v w = refl
 
-pub constant_is_value : (scope : List (List ℕ)) (c : ConstantHead) → IsValue scope (constant_of c)
+pub constant_is_value : (scope : Scope) (c : ConstantHead) → IsValue scope (constant_of c)
 unfolding IsValue
 constant_is_value scope constant.All = tt
 constant_is_value scope constant.NoPreds = tt
@@ -150,7 +150,7 @@ constant_is_value scope constant.NoCols = tt
 constant_is_value scope constant.OrderBy = tt
 constant_is_value scope constant.QuerySite = tt
 
-pub unary_is_value : (scope : List (List ℕ)) (f : UnaryHead) (v : ValueExpr) → IsValue scope v → IsValue scope (unary_of f v)
+pub unary_is_value : (scope : Scope) (f : UnaryHead) (v : ValueExpr) → IsValue scope v → IsValue scope (unary_of f v)
 unfolding IsValue
 unary_is_value scope unary.Tables v h = h
 unary_is_value scope unary.Inside v h = h
@@ -158,7 +158,7 @@ unary_is_value scope unary.Crossing v h = h
 unary_is_value scope unary.Equalities v h = h
 unary_is_value scope unary.Home v h = h
 
-pub binary_is_value : (scope : List (List ℕ)) (f : BinaryHead) (v w : ValueExpr) → IsValue scope v → IsValue scope w → IsValue scope (binary_of f v w)
+pub binary_is_value : (scope : Scope) (f : BinaryHead) (v w : ValueExpr) → IsValue scope v → IsValue scope w → IsValue scope (binary_of f v w)
 unfolding IsValue
 binary_is_value scope binary.Between v w h k = (h, k)
 binary_is_value scope binary.Columns v w h k = (h, k)
@@ -191,7 +191,7 @@ valued_lexemes valued.Order t v = refl
 valued_lexemes valued.Site t v = refl
 valued_lexemes valued.Path t v = refl
 
-pub valued_is_value : (scope : List (List ℕ)) (r : ValuedHead) (t v : ValueExpr) → IsValue scope t → IsValue scope v → IsValue scope (valued_of r t v)
+pub valued_is_value : (scope : Scope) (r : ValuedHead) (t v : ValueExpr) → IsValue scope t → IsValue scope v → IsValue scope (valued_of r t v)
 unfolding IsValue
 valued_is_value scope valued.Order t v h k = (h, k)
 valued_is_value scope valued.Site t v h k = (h, k)
@@ -264,18 +264,18 @@ unfolding condition_lexemes junction_word
 junction_lexemes junction.And c d = refl
 junction_lexemes junction.Or c d = refl
 
-pub unary_test_is_condition : (scope : List (List ℕ)) (f : UnaryTest) (v : ValueExpr) → IsValue scope v → IsCondition scope (test.unary_of f v)
+pub unary_test_is_condition : (scope : Scope) (f : UnaryTest) (v : ValueExpr) → IsValue scope v → IsCondition scope (test.unary_of f v)
 unfolding IsCondition
 unary_test_is_condition scope unary_test.Empty v h = h
 unary_test_is_condition scope unary_test.Single v h = h
 
-pub binary_test_is_condition : (scope : List (List ℕ)) (f : BinaryTest) (v w : ValueExpr) → IsValue scope v → IsValue scope w → IsCondition scope (test.binary_of f v w)
+pub binary_test_is_condition : (scope : Scope) (f : BinaryTest) (v w : ValueExpr) → IsValue scope v → IsValue scope w → IsCondition scope (test.binary_of f v w)
 unfolding IsCondition
 binary_test_is_condition scope binary_test.Same v w h k = (h, k)
 binary_test_is_condition scope binary_test.Within v w h k = (h, k)
 binary_test_is_condition scope binary_test.Begins v w h k = (h, k)
 
-pub junction_is_condition : (scope : List (List ℕ)) (f : Junction) (c d : Condition) → IsCondition scope c → IsCondition scope d → IsCondition scope (test.junction_of f c d)
+pub junction_is_condition : (scope : Scope) (f : Junction) (c d : Condition) → IsCondition scope c → IsCondition scope d → IsCondition scope (test.junction_of f c d)
 unfolding IsCondition
 junction_is_condition scope junction.And c d h k = (h, k)
 junction_is_condition scope junction.Or c d h k = (h, k)

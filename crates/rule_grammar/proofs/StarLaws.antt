@@ -7,10 +7,10 @@ use Rattle.rule_grammar.specs.StarReading.{star_of}
 use Rattle.rule_grammar.proofs.StarSpelled.{spelled_star}
 use Rattle.rule_grammar.proofs.StarRead.{read_star}
 
-pub star_is_read : (n : ℕ) (lexemes : List Lexeme) (s : StarDef) → (star_of n lexemes ≡ Some s) ↔ SpellsStar n lexemes s
-star_is_read n lexemes s = (spelled_star n lexemes s, read_star n lexemes s)
+pub star_is_read : (version n : ℕ) (lexemes : List Lexeme) (s : StarDef) → (star_of version n lexemes ≡ Some s) ↔ SpellsStar version n lexemes s
+star_is_read version n lexemes s = (spelled_star version n lexemes s, read_star version n lexemes s)
 
-pub one_star : (n : ℕ) (lexemes : List Lexeme) (s t : StarDef) → SpellsStar n lexemes s → SpellsStar n lexemes t → s ≡ t
-one_star n lexemes s t p q =
-    let both : Some s ≡ Some t = sym (read_star n lexemes s p) ∙ read_star n lexemes t q in
+pub one_star : (version n : ℕ) (lexemes : List Lexeme) (s t : StarDef) → SpellsStar version n lexemes s → SpellsStar version n lexemes t → s ≡ t
+one_star version n lexemes s t p q =
+    let both : Some s ≡ Some t = sym (read_star version n lexemes s p) ∙ read_star version n lexemes t q in
     cc

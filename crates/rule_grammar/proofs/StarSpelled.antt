@@ -11,7 +11,7 @@ use Rattle.star_model.specs.declared.rules.StarDef.{StarDef}
 use Rattle.spelling.specs.Lexemes.{Lexeme, Word, comma, bar, equals, left_bracket, right_bracket, joined_by}
 use Rattle.star_model.specs.Every.{Every, HasItem}
 use Rattle.star_model.specs.FlavourWords.{kind_word}
-use Rattle.star_model.specs.WellFormedRules.{IsName, IsRange, IsPlan, AreRanges, IsConditionIfAny, IsAlternative}
+use Rattle.star_model.specs.WellFormedRules.{Scope, with_name, IsName, IsRange, IsPlan, AreRanges, IsConditionIfAny, IsAlternative}
 use Rattle.rule_grammar.specs.Values.{range_lexemes, condition_lexemes}
 use Rattle.rule_grammar.specs.Rules.{plan_lexemes, for_lexemes, when_lexemes, alternative_lexemes, parameter_lexemes, SpellsStar}
 use Rattle.spelling.specs.Reading.{pure, the_word, the_symbol}
@@ -31,9 +31,16 @@ use Rattle.rule_grammar.proofs.PlanSpelled.{plan_spelled}
 
 -- ---- the names that may be used
 
-pub more_ranges : (parameters : List (List ℕ)) (done : List ForAll) (f : ForAll) → with_ranges parameters (done ++ f ∷ []) ≡ with_ranges parameters done ++ f.name ∷ []
+-- other names in the same version
+abbrev in_version : Scope → List (List ℕ) → Scope
+in_version scope names = record { version = scope.version; names = names }
+
+pub more_ranges : (parameters : Scope) (done : List ForAll) (f : ForAll) → with_ranges parameters (done ++ f ∷ []) ≡ with_name (with_ranges parameters done) f.name
 more_ranges parameters done f =
-    ap (λ l. parameters ++ l) (map-append (λ (g : ForAll). g.name) done (f ∷ [])) ∙ sym (append_assoc parameters (map (λ (g : ForAll). g.name) done) (f.name ∷ []))
+    ap (λ l. in_version parameters l) (ap (λ l. parameters.names ++ l) (map-append (λ (g : ForAll). g.name) done (f ∷ [])) ∙ sym (append_assoc parameters.names (map (λ (g : ForAll). g.name) done) (f.name ∷ [])))
+
+pub no_ranges : (parameters : Scope) → with_ranges parameters [] ≡ parameters
+no_ranges parameters = ap (λ l. in_version parameters l) (append-nil parameters.names)
 
 -- what stands behind a range
 pub range_ends : (f : ForAll) (later : List ForAll) (rest : List Lexeme) → flat_map for_lexemes (f ∷ later) ++ rest ≡ for_lexemes f ++ (flat_map for_lexemes later ++ rest)
@@ -47,15 +54,15 @@ behind_ranges a rest =
 
 -- ---- ranges
 
-pub for_all_spelled : (scope : List (List ℕ)) (depth : ℕ) (l0 : List Lexeme) (f : ForAll) (rest : List Lexeme) → for_all_at scope depth l0 ≡ Some (f, rest)
-    → (l0 ≡ Word f.name ∷ Word (codes "in") ∷ (range_lexemes f.range ++ rest)) × IsName f.name × IsRange scope f.range
+pub for_all_spelled : (scope : Scope) (depth : ℕ) (l0 : List Lexeme) (f : ForAll) (rest : List Lexeme) → for_all_at scope depth l0 ≡ Some (f, rest)
+    → (l0 ≡ Word f.name ∷ Word (codes "in") ∷ (range_lexemes f.range ++ rest)) × IsName scope.version f.name × IsRange scope f.range
 unfolding for_all_at
 for_all_spelled scope depth l0 f rest read =
-    then_reads free_word _ l0 f rest read (λ name l1 e1 read1.
+    then_reads (free_word scope.version) _ l0 f rest read (λ name l1 e1 read1.
     pass (the_word (codes "in")) _ l1 f rest read1 (λ l2 e2 read2.
     then_reads (range_at scope depth) _ l2 f rest read2 (λ r l3 e3 read3.
     let end = some_pair_parts _ f l3 rest read3 in
-    let first = name_spelled l0 name l1 e1 in
+    let first = name_spelled scope.version l0 name l1 e1 in
     let second = range_is_spelled scope depth l2 r l3 e3 in
     rw (sym end.0) (
       first.0 ∙ ap (λ l. Word name ∷ l) ((the_word_reads (codes "in") l1 l2).0 e2 ∙ ap (λ l. Word (codes "in") ∷ l) (second.0 ∙ ap (λ l. range_lexemes r ++ l) end.1)),
@@ -63,18 +70,18 @@ for_all_spelled scope depth l0 f rest read =
       second.1,
     ))))
 
-record Ranges (parameters : List (List ℕ)) (done : List ForAll) (lexemes : List Lexeme) (all : List ForAll) (rest : List Lexeme) : Type 0 where
+record Ranges (parameters : Scope) (done : List ForAll) (lexemes : List Lexeme) (all : List ForAll) (rest : List Lexeme) : Type 0 where
   ranges : List ForAll
   are : all ≡ done ++ ranges
   spelled : lexemes ≡ flat_map for_lexemes ranges ++ rest
   stand : AreRanges (with_ranges parameters done) ranges
 
-no_more : (parameters : List (List ℕ)) (done : List ForAll) (lexemes : List Lexeme) (all : List ForAll) (rest : List Lexeme) → pure done lexemes ≡ Some (all, rest) → Ranges parameters done lexemes all rest
+no_more : (parameters : Scope) (done : List ForAll) (lexemes : List Lexeme) (all : List ForAll) (rest : List Lexeme) → pure done lexemes ≡ Some (all, rest) → Ranges parameters done lexemes all rest
 no_more parameters done lexemes all rest read =
     let end = some_pair_parts done all lexemes rest read in
     record { ranges = []; are = sym end.0 ∙ sym (append-nil done); spelled = end.1; stand = tt }
 
-ranges_spelled : (parameters : List (List ℕ)) (depth n : ℕ) (done : List ForAll) (l0 : List Lexeme) (all : List ForAll) (rest : List Lexeme) → ranges_behind parameters depth n done l0 ≡ Some (all, rest)
+ranges_spelled : (parameters : Scope) (depth n : ℕ) (done : List ForAll) (l0 : List Lexeme) (all : List ForAll) (rest : List Lexeme) → ranges_behind parameters depth n done l0 ≡ Some (all, rest)
     → Ranges parameters done l0 all rest
 unfolding ranges_behind
 ranges_spelled parameters depth zero done l0 all rest read = no_more parameters done l0 all rest read
@@ -94,7 +101,7 @@ ranges_spelled parameters depth (suc n) done l0 all rest read =
 
 -- ---- alternatives
 
-when_spelled : (scope : List (List ℕ)) (depth : ℕ) (l0 : List Lexeme) (c : Option Condition) (rest : List Lexeme) → when_at scope depth l0 ≡ Some (c, rest)
+when_spelled : (scope : Scope) (depth : ℕ) (l0 : List Lexeme) (c : Option Condition) (rest : List Lexeme) → when_at scope depth l0 ≡ Some (c, rest)
     → (l0 ≡ when_lexemes c ++ rest) × IsConditionIfAny scope c
 unfolding when_at
 when_spelled scope depth l0 c rest read =
@@ -106,7 +113,7 @@ when_spelled scope depth l0 c rest read =
     rw (sym end.0) ((the_word_reads (codes "when") l0 l1).0 e1 ∙ ap (λ l. Word (codes "when") ∷ l) (found.0 ∙ ap (λ l. condition_lexemes x ++ l) end.1), found.1)))
     (λ read1. let end = some_pair_parts None c l0 rest read1 in rw (sym end.0) (end.1, tt))
 
-body_spelled : (scope : List (List ℕ)) (depth : ℕ) (l0 : List Lexeme) (p : Option Condition × PlanExpr) (rest : List Lexeme) → conditional_body_at scope depth l0 ≡ Some (p, rest)
+body_spelled : (scope : Scope) (depth : ℕ) (l0 : List Lexeme) (p : Option Condition × PlanExpr) (rest : List Lexeme) → conditional_body_at scope depth l0 ≡ Some (p, rest)
     → (l0 ≡ when_lexemes p.0 ++ Word (codes "give") ∷ (plan_lexemes p.1 ++ rest)) × IsConditionIfAny scope p.0 × IsPlan scope p.1
 unfolding conditional_body_at body_at
 body_spelled scope depth l0 p rest read =
@@ -122,7 +129,7 @@ body_spelled scope depth l0 p rest read =
       second.1,
     ))))
 
-pub alternative_spelled : (parameters : List (List ℕ)) (depth : ℕ) → Spells (alternative_at parameters depth) alternative_lexemes (IsAlternative parameters)
+pub alternative_spelled : (parameters : Scope) (depth : ℕ) → Spells (alternative_at parameters depth) alternative_lexemes (IsAlternative parameters)
 unfolding alternative_at ranges_at
 alternative_spelled parameters depth l0 a rest read =
     then_reads (ranges_at parameters depth) _ l0 a rest read (λ ranges l1 e1 read1.
@@ -132,7 +139,7 @@ alternative_spelled parameters depth l0 a rest read =
     let behind = body_spelled (with_ranges parameters ranges) depth l1 p l2 e2 in
     let a' : Alternative = record { ranges = ranges; condition = p.0; body = p.1 } in
     let are : flat_map for_lexemes found.ranges ≡ flat_map for_lexemes ranges = ap (λ l. flat_map for_lexemes l) (sym found.are) in
-    let stand : AreRanges parameters ranges = subst (λ s. AreRanges s ranges) (append-nil parameters) (rw found.are found.stand) in
+    let stand : AreRanges parameters ranges = subst (λ s. AreRanges s ranges) (no_ranges parameters) (rw found.are found.stand) in
     rw (sym end.0) (
       found.spelled ∙ ap (λ l. l ++ l1) are
           ∙ ap (λ l. flat_map for_lexemes ranges ++ l) (behind.0 ∙ ap (λ l. when_lexemes p.0 ++ Word (codes "give") ∷ (plan_lexemes p.1 ++ l)) end.1) ∙ sym (behind_ranges a' rest),
@@ -141,48 +148,49 @@ alternative_spelled parameters depth l0 a rest read =
 
 -- ---- statements
 
-pub parameter_spelled : Spells parameter_at parameter_lexemes (λ p. IsName p.name)
+pub parameter_spelled : (version : ℕ) → Spells (parameter_at version) parameter_lexemes (λ p. IsName version p.name)
 unfolding parameter_at
-parameter_spelled l0 p rest read =
-    then_reads free_word _ l0 p rest read (λ name l1 e1 read1.
+parameter_spelled version l0 p rest read =
+    then_reads (free_word version) _ l0 p rest read (λ name l1 e1 read1.
     then_reads kind_at _ l1 p rest read1 (λ kind l2 e2 read2.
     let end = some_pair_parts _ p l2 rest read2 in
-    let first = name_spelled l0 name l1 e1 in
+    let first = name_spelled version l0 name l1 e1 in
     rw (sym end.0) (first.0 ∙ ap (λ l. Word name ∷ l) (kind_spelled l1 kind l2 e2 ∙ ap (λ l. Word (kind_word kind) ∷ l) end.1), first.1)))
 
-parameters_spelled : (lexemes : List Lexeme) (ps : List Param) (rest : List Lexeme) → parameters_at lexemes ≡ Some (ps, rest)
-    → (lexemes ≡ joined_by comma (map parameter_lexemes ps) ++ rest) × HasItem ps × Every (λ p. IsName p.name) ps
+parameters_spelled : (version : ℕ) (lexemes : List Lexeme) (ps : List Param) (rest : List Lexeme) → parameters_at version lexemes ≡ Some (ps, rest)
+    → (lexemes ≡ joined_by comma (map parameter_lexemes ps) ++ rest) × HasItem ps × Every (λ p. IsName version p.name) ps
 unfolding parameters_at
-parameters_spelled lexemes ps rest read = series_spelled parameter_at parameter_lexemes (λ p. IsName p.name) (the_symbol (codes ",")) comma (the_symbol_reads (codes ",")) parameter_spelled lexemes ps rest read
+parameters_spelled version lexemes ps rest read =
+    series_spelled (parameter_at version) parameter_lexemes (λ p. IsName version p.name) (the_symbol (codes ",")) comma (the_symbol_reads (codes ",")) (parameter_spelled version) lexemes ps rest read
 
-alternatives_spelled : (parameters : List (List ℕ)) (depth : ℕ) (lexemes : List Lexeme) (as_ : List Alternative) (rest : List Lexeme) → alternatives_at parameters depth lexemes ≡ Some (as_, rest)
+alternatives_spelled : (parameters : Scope) (depth : ℕ) (lexemes : List Lexeme) (as_ : List Alternative) (rest : List Lexeme) → alternatives_at parameters depth lexemes ≡ Some (as_, rest)
     → (lexemes ≡ joined_by bar (map alternative_lexemes as_) ++ rest) × HasItem as_ × Every (IsAlternative parameters) as_
 unfolding alternatives_at
 alternatives_spelled parameters depth lexemes as_ rest read =
     series_spelled (alternative_at parameters depth) alternative_lexemes (IsAlternative parameters) (the_symbol (codes "|")) bar (the_symbol_reads (codes "|")) (alternative_spelled parameters depth) lexemes as_ rest read
 
-all_names : (ps : List Param) → Every (λ p. IsName p.name) ps → Every IsName (map (λ p. p.name) ps)
-all_names [] all = tt
-all_names (p ∷ ps) all = (all.0, all_names ps all.1)
+all_names : (version : ℕ) (ps : List Param) → Every (λ p. IsName version p.name) ps → Every (IsName version) (map (λ p. p.name) ps)
+all_names version [] all = tt
+all_names version (p ∷ ps) all = (all.0, all_names version ps all.1)
 
-record Head (lexemes : List Lexeme) (h : List ℕ × List Param) (rest : List Lexeme) : Type 0 where
+record Head (version : ℕ) (lexemes : List Lexeme) (h : List ℕ × List Param) (rest : List Lexeme) : Type 0 where
   are : lexemes ≡ Word (codes "star") ∷ Word h.0 ∷ left_bracket ∷ (joined_by comma (map parameter_lexemes h.1) ++ right_bracket ∷ equals ∷ rest)
-  name : IsName h.0
+  name : IsName version h.0
   some : HasItem h.1
-  named : Every (λ p. IsName p.name) h.1
+  named : Every (λ p. IsName version p.name) h.1
 
-head_spelled : (l0 : List Lexeme) (h : List ℕ × List Param) (rest : List Lexeme) → head_at l0 ≡ Some (h, rest) → Head l0 h rest
+head_spelled : (version : ℕ) (l0 : List Lexeme) (h : List ℕ × List Param) (rest : List Lexeme) → head_at version l0 ≡ Some (h, rest) → Head version l0 h rest
 unfolding head_at
-head_spelled l0 h rest read =
+head_spelled version l0 h rest read =
     pass (the_word (codes "star")) _ l0 h rest read (λ l1 e1 read1.
-    then_reads free_word _ l1 h rest read1 (λ name l2 e2 read2.
+    then_reads (free_word version) _ l1 h rest read1 (λ name l2 e2 read2.
     pass (the_symbol (codes "(")) _ l2 h rest read2 (λ l3 e3 read3.
-    then_reads parameters_at _ l3 h rest read3 (λ ps l4 e4 read4.
+    then_reads (parameters_at version) _ l3 h rest read3 (λ ps l4 e4 read4.
     pass (the_symbol (codes ")")) _ l4 h rest read4 (λ l5 e5 read5.
     pass (the_symbol (codes "=")) _ l5 h rest read5 (λ l6 e6 read6.
     let end = some_pair_parts _ h l6 rest read6 in
-    let named = name_spelled l1 name l2 e2 in
-    let parameters = parameters_spelled l3 ps l4 e4 in
+    let named = name_spelled version l1 name l2 e2 in
+    let parameters = parameters_spelled version l3 ps l4 e4 in
     rw (sym end.0) (record {
       are = (the_word_reads (codes "star") l0 l1).0 e1 ∙ ap (λ l. Word (codes "star") ∷ l) (
           named.0 ∙ ap (λ l. Word name ∷ l) (
@@ -194,14 +202,14 @@ head_spelled l0 h rest read =
       named = parameters.2;
     })))))))
 
-star_spelled : (number depth : ℕ) (l0 : List Lexeme) (s : StarDef) → star_at number depth l0 ≡ Some (s, []) → SpellsStar number l0 s
+star_spelled : (version number depth : ℕ) (l0 : List Lexeme) (s : StarDef) → star_at version number depth l0 ≡ Some (s, []) → SpellsStar version number l0 s
 unfolding star_at
-star_spelled number depth l0 s read =
-    then_reads head_at _ l0 s [] read (λ h l1 e1 read1.
-    then_reads (alternatives_at (names_of h.1) depth) _ l1 s [] read1 (λ as_ l2 e2 read2.
+star_spelled version number depth l0 s read =
+    then_reads (head_at version) _ l0 s [] read (λ h l1 e1 read1.
+    then_reads (alternatives_at (names_of version h.1) depth) _ l1 s [] read1 (λ as_ l2 e2 read2.
     let end = some_pair_parts _ s l2 [] read2 in
-    let head = head_spelled l0 h l1 e1 in
-    let alternatives = alternatives_spelled (names_of h.1) depth l1 as_ l2 e2 in
+    let head = head_spelled version l0 h l1 e1 in
+    let alternatives = alternatives_spelled (names_of version h.1) depth l1 as_ l2 e2 in
     rw (sym end.0) (record {
       number = refl;
       are = head.are
@@ -211,12 +219,12 @@ star_spelled number depth l0 s read =
       stands = record {
         name = head.name;
         some_parameters = head.some;
-        parameters = all_names h.1 head.named;
+        parameters = all_names version h.1 head.named;
         some_alternatives = alternatives.1;
         alternatives = alternatives.2;
       };
     })))
 
-pub spelled_star : (number : ℕ) (lexemes : List Lexeme) (s : StarDef) → star_of number lexemes ≡ Some s → SpellsStar number lexemes s
+pub spelled_star : (version number : ℕ) (lexemes : List Lexeme) (s : StarDef) → star_of version number lexemes ≡ Some s → SpellsStar version number lexemes s
 unfolding star_of
-spelled_star number lexemes s read = star_spelled number (length lexemes + 1) lexemes s (only_reads (star_at number (length lexemes + 1) lexemes) s read)
+spelled_star version number lexemes s read = star_spelled version number (length lexemes + 1) lexemes s (only_reads (star_at version number (length lexemes + 1) lexemes) s read)

@@ -13,7 +13,7 @@ use Rattle.rule_grammar.specs.declared.words.ValuedHead.{ValuedHead}
 use Rattle.rule_grammar.specs.declared.words.ValuedHead.TheVariants as valued
 use Rattle.spelling.specs.Lexemes.{Lexeme, Word, left_square, right_square, left_bracket, right_bracket, comma}
 use Rattle.spelling.specs.Reading.{Reader, ◌>>=◌}
-use Rattle.star_model.specs.WellFormedRules.{IsName, place_among, IsValue}
+use Rattle.star_model.specs.WellFormedRules.{Scope, IsName, place_among, IsValue}
 use Rattle.rule_grammar.specs.Values.{value_lexemes, in_squares}
 use Rattle.rule_grammar.specs.ValueReading as reading
 use Rattle.rule_grammar.specs.ValueReading.{constant_of, unary_of, binary_of, valued_of, variable_at, value_head, indexable_at, bare_at, required_at, requirement_at, requirement_head, requirements_at, value_by, value_at}
@@ -27,7 +27,7 @@ square_ends : (word : List ℕ) (a b rest : List Lexeme) → (a ++ in_squares (W
 square_ends word a b rest =
     append_assoc a (in_squares (Word word ∷ b)) rest ∙ ap (λ l. a ++ left_square ∷ Word word ∷ l) (append_assoc b (right_square ∷ []) rest)
 
-module _ (scope : List (List ℕ)) where
+module _ (scope : Scope) where
   record Stands (n : ℕ) (ws : List Lexeme) (v : ValueExpr) (rest : List Lexeme) : Type 0 where
     turns : ℕ
     enough : length rest ≤ turns
@@ -57,9 +57,9 @@ module _ (scope : List (List ℕ)) where
   -- ---- bare values, read where `inner` reads the values inside
 
   module _ (inner : Reader ValueExpr) where
-    free_read : (name : List ℕ) (rest : List Lexeme) → IsName name → bare_at scope inner (Word name ∷ rest) ≡ Some (plain.Variable name (place_among scope name), rest)
+    free_read : (name : List ℕ) (rest : List Lexeme) → IsName scope.version name → bare_at scope inner (Word name ∷ rest) ≡ Some (plain.Variable name (place_among scope.names name), rest)
     unfolding bare_at variable_at
-    free_read name rest free = rw (name_head name free) (rw free refl)
+    free_read name rest free = rw (name_head scope.version name free) (rw free refl)
 
     constant_read : (c : ConstantHead) (rest : List Lexeme) → bare_at scope inner (Word (constant_word c) ∷ rest) ≡ Some (constant_of c, rest)
     unfolding bare_at
@@ -107,7 +107,7 @@ module _ (scope : List (List ℕ)) where
 
   -- ---- the claims
 
-  free_claim : (name : List ℕ) (place : ℕ) → IsName name → place ≡ place_among scope name → Claim (plain.Variable name place)
+  free_claim : (name : List ℕ) (place : ℕ) → IsName scope.version name → place ≡ place_among scope.names name → Claim (plain.Variable name place)
   unfolding Claim value_lexemes
   free_claim name place free is = λ n rest le.
       begun n (Word name ∷ rest) rest (plain.Variable name place) (free_read (value_at scope n) name rest free ∙ ap (λ p. Some (plain.Variable name p, rest)) (sym is))

@@ -12,9 +12,8 @@ use Rattle.rule_grammar.specs.declared.words.RequirementHead.{RequirementHead}
 use Rattle.rule_grammar.specs.declared.words.RequirementHead.TheVariants as requirement
 use Rattle.rule_grammar.specs.declared.words.ValuedHead.{ValuedHead}
 use Rattle.spelling.specs.Lexemes.{Lexeme, Word, left_square, right_square, left_bracket, right_bracket, comma}
-use Rattle.star_model.specs.Names.{is_among}
 use Rattle.spelling.specs.Reading.{Reader, ◌>>=◌, ◌>>◌, pure, the_symbol, a_word}
-use Rattle.star_model.specs.WellFormedRules.{reserved_in_rules, place_among, IsValue}
+use Rattle.star_model.specs.WellFormedRules.{Scope, is_reserved, place_among, IsValue}
 use Rattle.rule_grammar.specs.Values.{value_lexemes, in_squares}
 use Rattle.rule_grammar.specs.ValueReading.{one_at, last_two_at, two_at, constant_of, unary_of, binary_of, valued_of, variable_at, value_head, indexable_at, headed, bare_at, required_at, requiring, requirement_at, requirement_head, turn, requirements_at, value_by, value_at}
 use Rattle.spelling.proofs.Laws.{the_symbol_reads, a_word_reads, then_reads}
@@ -22,18 +21,18 @@ use Rattle.spelling.specs.SeriesReadingCases.{Spells}
 use Rattle.rule_grammar.proofs.Bracketed.{three_ends, IsSpelled, one_spelled, last_two_spelled, two_spelled, made_spelled}
 use Rattle.rule_grammar.proofs.RuleHeads.{value_word, unary_word, binary_word, head_of_word, constant_lexemes, unary_lexemes, binary_lexemes, constant_is_value, unary_is_value, binary_is_value, requirement_word, valued_word, valued_lexemes, valued_is_value, requirement_of_word}
 
-module _ (scope : List (List ℕ)) where
+module _ (scope : Scope) where
   abbrev ValueStands : List Lexeme → ValueExpr → List Lexeme → Type 0
   ValueStands ws v rest = IsSpelled value_lexemes (IsValue scope) ws v rest
 
   variable_spelled : (name : List ℕ) (xs ws : List Lexeme) (v : ValueExpr) (rest : List Lexeme) → xs ≡ Word name ∷ ws → variable_at scope name ws ≡ Some (v, rest) → ValueStands xs v rest
   unfolding variable_at value_lexemes IsValue
-  variable_spelled name xs ws v rest first read = at (is_among reserved_in_rules name) refl
+  variable_spelled name xs ws v rest first read = at (is_reserved scope.version name) refl
     where
-      at : (b : Bool) → is_among reserved_in_rules name ≡ b → ValueStands xs v rest
+      at : (b : Bool) → is_reserved scope.version name ≡ b → ValueStands xs v rest
       at true reserved = let none = rw reserved at read in absurd cc
       at false free =
-          let is = some_pair_parts (plain.Variable name (place_among scope name)) v ws rest (rw free at read) in
+          let is = some_pair_parts (plain.Variable name (place_among scope.names name)) v ws rest (rw free at read) in
           (first ∙ (λ i. Word name ∷ is.1 i) ∙ ap (λ u. value_lexemes u ++ rest) is.0, subst (IsValue scope) is.0 (free, refl))
 
   module _ (inner : Reader ValueExpr) (sound : Spells inner value_lexemes (IsValue scope)) where

@@ -3,6 +3,7 @@ use Rattle.std.specs.Prelude.{ℕ, zero, suc, List, [], ◌∷◌, None, codes}
 use Rattle.star_model.specs.declared.rules.Condition.{Condition}
 use Rattle.star_model.specs.declared.rules.Condition.TheVariants as plain
 use Rattle.star_model.specs.ConditionCases as condition
+use Rattle.star_model.specs.WellFormedRules.{Scope}
 use Rattle.star_model.specs.declared.rules.ValueExpr.{ValueExpr}
 use Rattle.rule_grammar.specs.declared.words.ConditionHead.{ConditionHead}
 use Rattle.rule_grammar.specs.declared.words.ConditionHead.TheVariants as head
@@ -38,7 +39,7 @@ abbrev pub junction_of : Junction → Condition → Condition → Condition
 junction_of junction.And c d = condition.And c d
 junction_of junction.Or c d = condition.Or c d
 
-module _ (scope : List (List ℕ)) where
+module _ (scope : Scope) where
   -- what stands behind the word, where so many values may be open inside one another, and `inner` reads a condition inside this one
   abbrev pub conditional : ℕ → Reader Condition → ConditionHead → Reader Condition
   conditional n inner (head.Unary f) = one_at (value_at scope n) >>= λ v. pure (unary_of f v)

@@ -4,6 +4,7 @@ pub mod PlanReading
 pub mod RuleLimits
 pub mod RuleWords
 pub mod Rules
+pub mod SelectHeads
 pub mod StarReading
 pub mod Tiny
 pub mod ValueReading

@@ -1,5 +1,5 @@
 -- How a plan of the rule language is read from the front of its lexemes.
-use Rattle.std.specs.Prelude.{ℕ, zero, suc, ◌==◌, List, length, Option, Some, None, codes, if◌then◌else◌}
+use Rattle.std.specs.Prelude.{ℕ, zero, suc, ◌==◌, List, [], length, Option, Some, None, codes, if◌then◌else◌}
 use Rattle.star_model.specs.PlanExprCases.{Unary, Binary}
 use Rattle.star_model.specs.Vectors.{same_numbers}
 use Rattle.star_model.specs.declared.rules.PlanExpr.{PlanExpr}
@@ -7,10 +7,10 @@ use Rattle.star_model.specs.declared.rules.PlanExpr.TheVariants as plain
 use Rattle.star_model.specs.declared.rules.ValueExpr.{ValueExpr}
 use Rattle.star_model.specs.declared.rules.Flavour.{Flavour}
 use Rattle.star_model.specs.Kinds.{inputs_of}
-use Rattle.star_model.specs.WellFormedRules.{arguments_of}
+use Rattle.star_model.specs.WellFormedRules.{Scope, arguments_of}
 use Rattle.spelling.specs.Reading.{Reader, ◌>>=◌, ◌>>◌, pure, given, the_symbol, a_word}
 use Rattle.spelling.specs.SeriesReading.{series}
-use Rattle.star_model.specs.FlavourWords.{flavour_of}
+use Rattle.star_model.specs.FlavourWords.{flavour_in}
 use Rattle.rule_grammar.specs.RuleWords.{name_of}
 use Rattle.rule_grammar.specs.ValueReading.{value_at}
 
@@ -30,9 +30,10 @@ module _ (value : Reader ValueExpr) where
     the_symbol (codes ")")
     given (counted f arguments)
 
-  -- behind its plans
+  -- behind its plans, which may be all that it takes
   unfoldable pub more_arguments_at : Flavour → Reader (List ValueExpr)
-  more_arguments_at f = the_symbol (codes ",") >> own_arguments_at f
+  more_arguments_at f lexemes =
+      if arguments_of f == 0 then (the_symbol (codes ")") >> pure []) lexemes else (the_symbol (codes ",") >> own_arguments_at f) lexemes
 
   -- behind the name of a STAR
   unfoldable pub reference_at : List ℕ → Reader PlanExpr
@@ -93,15 +94,15 @@ module _ (value : Reader ValueExpr) where
     operator_at f (suc zero) = unary_at f
     operator_at f (suc (suc n)) = binary_at f
 
-    -- behind this word, which may be the name of an operator
-    abbrev pub behind_word : List ℕ → Option Flavour → Reader PlanExpr
-    behind_word word (Some f) = operator_at f (inputs_of f)
-    behind_word word None = λ lexemes. if same_numbers word (codes "Glue") then glue_at lexemes else (given (name_of word) >>= reference_at) lexemes
+    -- behind this word, which may be the name of an operator, in a rule file of this version
+    abbrev pub behind_word : ℕ → List ℕ → Option Flavour → Reader PlanExpr
+    behind_word version word (Some f) = operator_at f (inputs_of f)
+    behind_word version word None = λ lexemes. if same_numbers word (codes "Glue") then glue_at lexemes else (given (name_of version word) >>= reference_at) lexemes
 
-    unfoldable pub plan_by : Reader PlanExpr
-    plan_by = a_word >>= λ word. behind_word word (flavour_of word)
+    unfoldable pub plan_by : ℕ → Reader PlanExpr
+    plan_by version = a_word >>= λ word. behind_word version word (flavour_in version word)
 
 -- The number bounds how many plans and values may be open inside one another; the names may be used.
-unfoldable pub plan_at : List (List ℕ) → ℕ → Reader PlanExpr
+unfoldable pub plan_at : Scope → ℕ → Reader PlanExpr
 plan_at scope zero = λ _. None
-plan_at scope (suc n) = plan_by (value_at scope n) (plan_at scope n)
+plan_at scope (suc n) = plan_by (value_at scope n) (plan_at scope n) scope.version

@@ -27,6 +27,8 @@ tiny_lexemes =
 
 unfoldable pub tiny_rules : RuleFile
 tiny_rules = record {
+  version = 1;
+  selects = [];
   formulas =
       record { statement = 1; flavour = flavour.AccessHeap; which = which.Cost; formula = (f.Add (f.Mul (formula.Number 10) (formula.Variable var.Pages)) (f.Mul (formula.Variable var.Cpu) (formula.Variable var.Rows))) }
       ∷ record { statement = 2; flavour = flavour.AccessHeap; which = which.Rescan; formula = (f.Add (f.Mul (formula.Number 10) (formula.Variable var.Pages)) (f.Mul (formula.Variable var.Cpu) (formula.Variable var.Rows))) }

@@ -21,8 +21,7 @@ use Rattle.rule_grammar.specs.declared.words.RangeHead.{RangeHead}
 use Rattle.rule_grammar.specs.declared.words.RangeHead.TheVariants as ranged
 use Rattle.spelling.specs.Lexemes.{Lexeme}
 use Rattle.spelling.specs.Names.{found_in}
-use Rattle.star_model.specs.Names.{is_among}
-use Rattle.star_model.specs.WellFormedRules.{reserved_in_rules, place_among}
+use Rattle.star_model.specs.WellFormedRules.{Scope, is_reserved, place_among}
 use Rattle.spelling.specs.Reading.{Reader, ◌>>=◌, ◌>>◌, pure, the_symbol, a_word}
 
 -- ---- words
@@ -153,10 +152,10 @@ module _ (inner : Reader ValueExpr) where
   requirements_at zero t = pure t
   requirements_at (suc n) t = λ lexemes. turn (requirements_at n) t lexemes (the_symbol (codes "[") lexemes)
 
-module _ (scope : List (List ℕ)) where
+module _ (scope : Scope) where
   -- the variable of this name
   unfoldable pub variable_at : List ℕ → Reader ValueExpr
-  variable_at name lexemes = if is_among reserved_in_rules name then None else Some (plain.Variable name (place_among scope name), lexemes)
+  variable_at name lexemes = if is_reserved scope.version name then None else Some (plain.Variable name (place_among scope.names name), lexemes)
 
   -- `inner` reads a value inside this one
   module _ (inner : Reader ValueExpr) where

@@ -1,5 +1,5 @@
 -- How the values, the ranges and the conditions of the rule language are written.
-use Rattle.std.specs.Prelude.{ℕ, List, [], ◌∷◌, ◌++◌, codes}
+use Rattle.std.specs.Prelude.{List, [], ◌∷◌, ◌++◌, codes}
 use Rattle.star_model.specs.ValueCases.{WithOrder, WithSite, WithTemp, WithPath, Tables, Inside, Crossing, Between, Equalities, Indexable, Columns, Keys, Home, Union, Minus, Meet}
 use Rattle.star_model.specs.ConditionCases as condition
 use Rattle.star_model.specs.declared.rules.ValueExpr.{ValueExpr}
@@ -8,7 +8,7 @@ use Rattle.star_model.specs.declared.rules.Condition.{Condition}
 use Rattle.star_model.specs.declared.rules.Condition.TheVariants as plain_condition
 use Rattle.star_model.specs.declared.rules.Range.{Range}
 use Rattle.star_model.specs.declared.rules.Range.TheVariants as range
-use Rattle.spelling.specs.Lexemes.{call, Lexeme, Word, comma, left_square, right_square, joined_by, bracketed}
+use Rattle.spelling.specs.Lexemes.{call, Lexeme, Word, left_square, right_square}
 
 -- ---- values
 

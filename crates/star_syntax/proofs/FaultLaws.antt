@@ -1,5 +1,5 @@
 -- One text has at most one first fault, and one that is read has none.
-use Rattle.std.proofs.Common.{◌≡◌, ◌-◌, ◌≤◌, ◌+◌, ℕ, List, [], ◌∷◌, ◌++◌, map, take, Some, None, Ok, codes, refl, sym, ap, ◌∙◌, subst, arith}
+use Rattle.std.proofs.Common.{◌≡◌, ◌-◌, ◌≤◌, ◌+◌, ℕ, false, List, [], ◌∷◌, ◌++◌, length, map, take, Some, None, Ok, codes, refl, sym, ap, ◌∙◌, subst, arith, length-append}
 use Rattle.std.proofs.lemmas.Option.{none-some}
 use Rattle.sb_text.specs.Refusal.{fault_of}
 use Rattle.sb_text.specs.declared.token.TextFault.TheVariants as text
@@ -12,49 +12,70 @@ use Rattle.spelling.specs.Firsts.{FirstAt, NoneFrom, NoneHas}
 use Rattle.spelling.specs.FirstsCases.{one_first, none_first}
 use Rattle.spelling.specs.Limits.{IsFirstBeyond}
 use Rattle.spelling.specs.LimitsCases.{one_limit}
-use Rattle.spelling.specs.Syntax.{IsUnderstood, IsStrangeAt}
+use Rattle.spelling.specs.SpelledSeries.{apart}
+use Rattle.star_model.specs.Vectors.{same_numbers}
 use Rattle.star_model.specs.declared.rules.Which.{Which}
 use Rattle.star_model.specs.declared.rules.Which.TheVariants as which
 use Rattle.star_model.specs.FlavourWords.{which_word}
-use Rattle.rule_grammar.specs.Rules.{Definition, OfFormula, OfStar, SpellsRules}
-use Rattle.rule_grammar.specs.RuleLimits.{RuleStatement, SpellsNumbered, SpellsDefinition, AreSpelled, SaysRules, Beyond, IsBeyond}
+use Rattle.rule_grammar.specs.Rules.{Definition, OfVersion, OfSelect, OfFormula, OfStar, SpellsRules}
+use Rattle.rule_grammar.specs.RuleLimits.{RuleStatement, SpellsNumbered, AreSpelled, version_of, version_said, SaysRules, Beyond, IsBeyond}
 use Rattle.spelling.proofs.Laws.{one_list}
-use Rattle.rule_grammar.proofs.Laws.{one_formula_def, one_star}
-use Rattle.star_syntax.specs.Faults.{IsLimitAt, HasFault, fault_rank, IsFirstFault, IsRead}
+use Rattle.rule_grammar.proofs.Laws.{one_select_def, one_formula_def, one_star}
+use Rattle.star_syntax.specs.Faults.{IsStrange, IsStrangeAt, IsLimitAt, HasFault, fault_rank, IsFirstFault, IsRead}
 use Rattle.star_syntax.specs.declared.statements.RulesSoFar.{RulesSoFar}
-use Rattle.star_syntax.specs.Statements.{lists_of, StatementsRead}
+use Rattle.star_syntax.specs.Statements.{lists_of, rules_of, StatementsRead}
+use Rattle.star_syntax.specs.Versions.{version_in, version_of_text}
+use Rattle.star_syntax.proofs.VersionLaws.{first_says, statements_say}
 use Rattle.star_syntax.proofs.ReadLaws.{understood}
+use Rattle.star_syntax.proofs.SpelledRules.{says_spells}
 use Rattle.star_syntax.proofs.WellFormedLaws.{rules_formed, rules_fit}
 
 -- ---- one text says one list of statements
 
-abbrev first_letter : List Lexeme → ℕ
-first_letter (Word (letter ∷ letters) ∷ later) = letter
-first_letter _ = 0
+cost_apart : (w : Which) (word : List ℕ) (rest later : List Lexeme) → same_numbers (codes "cost") word ≡ false → same_numbers (codes "rescan") word ≡ false
+    → Word (which_word w) ∷ rest ≡ Word word ∷ later → ⊥
+cost_apart which.Cost word rest later cost rescan e = apart (codes "cost") word rest later cost e
+cost_apart which.Rescan word rest later cost rescan e = apart (codes "rescan") word rest later rescan e
 
-not_star : (w : Which) (rest later : List Lexeme) → Word (which_word w) ∷ rest ≡ Word (codes "star") ∷ later → ⊥
-not_star which.Cost rest later e = let letters : 99 ≡ 115 = ap first_letter e in omega (arith, letters)
-not_star which.Rescan rest later e = let letters : 114 ≡ 115 = ap first_letter e in omega (arith, letters)
+-- the first statement is for no version, and for one
+not_version : (version n : ℕ) (lexemes : List Lexeme) (d : Definition) → SpellsNumbered version n lexemes OfVersion → SpellsNumbered version n lexemes d → version_of d ≡ 1 → ⊥
+not_version version n lexemes d says spells other = omega (arith, first_says version n lexemes OfVersion says, first_says version n lexemes d spells, other)
 
-one_defined : (n : ℕ) (lexemes : List Lexeme) (x y : Definition) → SpellsNumbered n lexemes x → SpellsNumbered n lexemes y → x ≡ y
-one_defined n lexemes (OfFormula d) (OfFormula f) p q = ap OfFormula (one_formula_def n lexemes d f p q)
-one_defined n lexemes (OfFormula d) (OfStar s) p q = absurd (not_star d.which _ _ (sym p.are ∙ q.are))
-one_defined n lexemes (OfStar s) (OfFormula d) p q = absurd (not_star d.which _ _ (sym q.are ∙ p.are))
-one_defined n lexemes (OfStar s) (OfStar t) p q = ap OfStar (one_star n lexemes s t p q)
+one_defined : (version n : ℕ) (lexemes : List Lexeme) (x y : Definition) → SpellsNumbered version n lexemes x → SpellsNumbered version n lexemes y → x ≡ y
+one_defined version n lexemes OfVersion OfVersion p q = refl
+one_defined version n lexemes OfVersion (OfSelect d) p q = absurd (not_version version n lexemes (OfSelect d) p q refl)
+one_defined version n lexemes OfVersion (OfFormula d) p q = absurd (not_version version n lexemes (OfFormula d) p q refl)
+one_defined version n lexemes OfVersion (OfStar s) p q = absurd (not_version version n lexemes (OfStar s) p q refl)
+one_defined version n lexemes (OfSelect d) OfVersion p q = absurd (not_version version n lexemes (OfSelect d) q p refl)
+one_defined version n lexemes (OfSelect d) (OfSelect f) p q = ap OfSelect (one_select_def version n lexemes d f p q)
+one_defined version n lexemes (OfSelect d) (OfFormula f) p q = absurd (cost_apart f.which (codes "selectivity") _ _ refl refl (sym q.are ∙ p.are))
+one_defined version n lexemes (OfSelect d) (OfStar s) p q = absurd (apart (codes "selectivity") (codes "star") _ _ refl (sym p.are ∙ q.are))
+one_defined version n lexemes (OfFormula d) OfVersion p q = absurd (not_version version n lexemes (OfFormula d) q p refl)
+one_defined version n lexemes (OfFormula d) (OfSelect f) p q = absurd (cost_apart d.which (codes "selectivity") _ _ refl refl (sym p.are ∙ q.are))
+one_defined version n lexemes (OfFormula d) (OfFormula f) p q = ap OfFormula (one_formula_def version n lexemes d f p q)
+one_defined version n lexemes (OfFormula d) (OfStar s) p q = absurd (cost_apart d.which (codes "star") _ _ refl refl (sym p.are ∙ q.are))
+one_defined version n lexemes (OfStar s) OfVersion p q = absurd (not_version version n lexemes (OfStar s) q p refl)
+one_defined version n lexemes (OfStar s) (OfSelect d) p q = absurd (apart (codes "selectivity") (codes "star") _ _ refl (sym q.are ∙ p.are))
+one_defined version n lexemes (OfStar s) (OfFormula d) p q = absurd (cost_apart d.which (codes "star") _ _ refl refl (sym q.are ∙ p.are))
+one_defined version n lexemes (OfStar s) (OfStar t) p q = ap OfStar (one_star version n lexemes s t p q)
 
-same_list : (n : ℕ) (a b : List RuleStatement) → AreSpelled n a → AreSpelled n b → lists_of a ≡ lists_of b → a ≡ b
-same_list n [] [] p q e = refl
-same_list n [] (y ∷ b) p q e = absurd cc
-same_list n (x ∷ a) [] p q e = absurd cc
-same_list n (x ∷ a) (y ∷ b) p q e =
+same_list : (version n : ℕ) (a b : List RuleStatement) → AreSpelled version n a → AreSpelled version n b → lists_of a ≡ lists_of b → a ≡ b
+same_list version n [] [] p q e = refl
+same_list version n [] (y ∷ b) p q e = absurd cc
+same_list version n (x ∷ a) [] p q e = absurd cc
+same_list version n (x ∷ a) (y ∷ b) p q e =
     let first : x.lexemes ≡ y.lexemes = cc in
     let later : lists_of a ≡ lists_of b = cc in
-    let one = one_defined n x.lexemes x.defines y.defines p.0 (subst (λ (l : List Lexeme). SpellsNumbered n l y.defines) (sym first) q.0) in
-    let more = same_list (n + 1) a b p.1 q.1 later in
+    let one = one_defined version n x.lexemes x.defines y.defines p.0 (subst (λ (l : List Lexeme). SpellsNumbered version n l y.defines) (sym first) q.0) in
+    let more = same_list version (n + 1) a b p.1 q.1 later in
     (λ i. record { lexemes = first i; defines = one i } ∷ more i)
 
 pub same_statements : (source : List ℕ) (a b : List RuleStatement) → SaysRules source a → SaysRules source b → a ≡ b
-same_statements source a b p q = same_list 1 a b p.spelled q.spelled (one_list source _ _ p.are q.are)
+same_statements source a b p q =
+    let lists : lists_of a ≡ lists_of b = one_list source _ _ p.are q.are in
+    let version : version_said a ≡ version_said b =
+    sym (statements_say (version_said a) 1 a p.spelled) ∙ ap (λ (l : List (List Lexeme)). version_in (map ended l)) lists ∙ statements_say (version_said b) 1 b q.spelled in
+    same_list (version_said b) 1 a b (subst (λ (v : ℕ). AreSpelled v 1 a) version p.spelled) q.spelled lists
 
 -- ---- at most one first fault
 
@@ -62,7 +83,7 @@ same_statements source a b p q = same_list 1 a b p.spelled q.spelled (one_list s
 data Found (source : List ℕ) : RuleFault → Type 0 where
   lexical : {offset : ℕ} → fault_of source ≡ Some (text.Lexical offset) → Found source (Lexical offset)
   too_deep : {k : ℕ} → fault_of source ≡ Some (text.TooDeep k) → Found source (TooDeep k)
-  syntax_ : {k : ℕ} → IsStrangeAt SpellsDefinition source k → Found source (Syntax k)
+  syntax_ : {k : ℕ} → IsStrangeAt source k → Found source (Syntax k)
   limit_ : {k : ℕ} {what : LimitKind} → (statements : List RuleStatement) → SaysRules source statements → IsLimitAt statements k what → Found source (Limit k what)
 
 found : (source : List ℕ) (fault : RuleFault) → HasFault source fault → Found source fault
@@ -122,15 +143,24 @@ one_fault source f g p q =
 
 -- ---- which faults a text has not
 
-all_understood : (n : ℕ) (statements : List RuleStatement) → AreSpelled n statements → (before : List MaybeEnded)
-    → NoneFrom (λ _ s. IsUnderstood SpellsDefinition s → ⊥) before (map ended (lists_of statements))
-all_understood n [] spelled before = tt
-all_understood n (s ∷ statements) spelled before = ((λ strange. strange (understood n s spelled.0)), all_understood (n + 1) statements spelled.1 (before ++ ended s.lexemes ∷ []))
+all_understood : (version n : ℕ) (statements : List RuleStatement) → AreSpelled version n statements → (before : List MaybeEnded) → n ≡ length before + 1
+    → NoneFrom (IsStrange version) before (map ended (lists_of statements))
+all_understood version n [] spelled before place = tt
+all_understood version n (s ∷ statements) spelled before place = (
+  (λ strange. strange (understood version n (length before + 1) s spelled.0 place)),
+  all_understood version (n + 1) statements spelled.1 (before ++ ended s.lexemes ∷ []) (omega (arith, place, length-append before (ended s.lexemes ∷ []))),
+)
 
-not_strange : (source : List ℕ) (statements : List RuleStatement) (k : ℕ) → SaysRules source statements → IsStrangeAt SpellsDefinition source k → ⊥
+-- the version that the text says is that of its statements
+pub version_is : (source : List ℕ) (statements : List RuleStatement) → SaysRules source statements → version_of_text source ≡ version_said statements
+version_is source statements says = ap version_in says.are.are ∙ statements_say (version_said statements) 1 statements says.spelled
+
+not_strange : (source : List ℕ) (statements : List RuleStatement) (k : ℕ) → SaysRules source statements → IsStrangeAt source k → ⊥
 not_strange source statements k says strange =
-    none_first (λ _ s. IsUnderstood SpellsDefinition s → ⊥) [] (map ended (lists_of statements)) k (all_understood 1 statements says.spelled [])
-    (subst (λ l. FirstAt (λ _ s. IsUnderstood SpellsDefinition s → ⊥) l k) says.are.are strange)
+    let version = version_said statements in
+    let here : FirstAt (IsStrange version) (statements_in source) k = subst (λ (v : ℕ). FirstAt (IsStrange v) (statements_in source) k) (version_is source statements says) strange in
+    none_first (IsStrange version) [] (map ended (lists_of statements)) k (all_understood version 1 statements says.spelled [] (omega arith))
+    (subst (λ l. FirstAt (IsStrange version) l k) says.are.are here)
 
 from_syntax : (source : List ℕ) (fault : RuleFault) → fault_of source ≡ None → Found source fault → 2 ≤ fault_rank fault
 from_syntax source fault none (lexical p) = absurd (none-some _ (sym none ∙ p))
@@ -157,7 +187,7 @@ no_fault source statements none says within fault has = clear source statements 
 
 -- ---- verdicts
 
-syntax_first : (source : List ℕ) (k : ℕ) → fault_of source ≡ None → IsStrangeAt SpellsDefinition source k → IsFirstFault source (Syntax k)
+syntax_first : (source : List ℕ) (k : ℕ) → fault_of source ≡ None → IsStrangeAt source k → IsFirstFault source (Syntax k)
 syntax_first source k none strange = record { has = strange; first = λ other has. from_syntax source other none (found source other has) }
 
 limit_first : (source : List ℕ) (statements : List RuleStatement) (k : ℕ) (what : LimitKind) → fault_of source ≡ None → SaysRules source statements → IsLimitAt statements k what
@@ -176,7 +206,9 @@ read_whole source statements rules none says spells within = record {
 -- what the statements of a text come to
 pub no_limit : (source : List ℕ) (read : RulesSoFar) → fault_of source ≡ None → StatementsRead source (Ok read) → read.beyond ≡ None → IsRead source read.rules
 no_limit source read none (statements, says, so) is =
-    read_whole source statements read.rules none says (record { statements = lists_of statements; are = says.are; define = so.define }) (rw is at so.limit)
+    let rules : read.rules ≡ rules_of (version_said statements) statements = so.rules ∙ ap (λ (v : ℕ). rules_of v statements) (version_is source statements says) in
+    let spells : SpellsRules source read.rules = subst (λ (r : RuleFile). SpellsRules source r) (sym rules) (says_spells source statements says) in
+    read_whole source statements read.rules none says spells (rw is at so.limit)
 
 pub a_limit : (source : List ℕ) (read : RulesSoFar) (k : ℕ) (what : LimitKind) → fault_of source ≡ None → StatementsRead source (Ok read) → read.beyond ≡ Some (k, what)
     → IsFirstFault source (Limit k what)

@@ -2,7 +2,11 @@ mod Counting
 mod DefinitionLaws
 mod LimitLaws
 mod StarCounts
+mod RulesMore
 mod SoFarLaws
+mod VersionLaws
+mod StatementNumbers
+mod SpelledRules
 mod ReadLaws
 mod WellFormedLaws
 mod FaultLaws

@@ -1,6 +1,6 @@
 -- The first limit that the tests find is the first that a statement goes beyond.
 use Rattle.std.proofs.Common.{◌≡◌, ◌<◌, ◌≤◌, ◌+◌, ◌⊎◌, inl, inr, ℕ, zero, suc, Bool, true, false, nat_lt, nat_le, List, [], ◌∷◌, length, Option, Some, None, refl, ap, ◌∙◌, arith, ltb-true}
-use Rattle.std.specs.Prelude.{MatchOption, if◌then◌else◌, Contains}
+use Rattle.std.specs.Prelude.{MatchOption, ◌||◌, if◌then◌else◌, Contains}
 use Rattle.std.specs.List.{list_any}
 use Rattle.std.proofs.lemmas.Bool.{both_ways, lt-ltb, leb-true, ltb-false, leb-false, or_cases, or_left, or_right, false_from_ne_true}
 use Rattle.star_model.specs.Numbers.{top}
@@ -9,12 +9,13 @@ use Rattle.star_model.specs.declared.faults.LimitKind.{LimitKind}
 use Rattle.star_model.specs.declared.faults.LimitKind.TheVariants as limit
 use Rattle.star_model.specs.declared.rules.StarDef.{StarDef}
 use Rattle.star_model.specs.declared.rules.FormulaDef.{FormulaDef}
+use Rattle.star_model.specs.declared.rules.SelectDef.{SelectDef}
 use Rattle.spelling.specs.Lexemes.{Lexeme, Word, Number, Text, Symbol}
 use Rattle.spelling.specs.Limits.{limit_rank, HasGreatNumber, HasLongWord}
-use Rattle.rule_grammar.specs.Rules.{Definition, OfFormula, OfStar}
+use Rattle.rule_grammar.specs.Rules.{Definition, OfVersion, OfSelect, OfFormula, OfStar}
 use Rattle.rule_grammar.specs.RuleLimits.{RuleStatement, HasAlternative, Beyond, BeyondFirst, IsBeyond, count_of_stars}
 use Rattle.star_model.specs.WellFormedRules.{nesting}
-use Rattle.star_syntax.specs.LimitTests.{is_great, is_long, has_many_ranges, is_deep, star_limit, formula_limit, definition_limit, limit_beyond}
+use Rattle.star_syntax.specs.LimitTests.{is_great, is_long, has_many_ranges, is_deep, is_large, star_limit, formula_limit, select_limit, definition_limit, limit_beyond}
 
 pub not_less : (m n : ℕ) → (m < n → ⊥) → n ≤ m
 not_less m n h = ltb-false m n (false_from_ne_true (nat_lt m n) (λ k. h (ltb-true m n k)))
@@ -127,6 +128,41 @@ module _ (earlier : List RuleStatement) (lexemes : List Lexeme) (fine : list_any
       at true large = first_formula large
       at false small = λ beyond. no_formula_limit small beyond.0 beyond.1
 
+  -- ---- a selectivity
+
+  module _ (d : SelectDef) where
+    abbrev of_select : RuleStatement
+    of_select = record { lexemes = lexemes; defines = OfSelect d }
+
+    no_select_limit : is_large d.num ≡ false → is_large d.den ≡ false → (what : LimitKind) → Beyond earlier of_select what → ⊥
+    no_select_limit num den limit.Number b = both_ways (list_any is_great lexemes) fine (great_to lexemes b)
+    no_select_limit num den limit.Name b = both_ways (list_any is_long lexemes) short (long_to lexemes b)
+    no_select_limit num den limit.Formula (inl b) = omega (arith, ltb-false 256 (length (nodes d.num)) num, b)
+    no_select_limit num den limit.Formula (inr b) = omega (arith, ltb-false 256 (length (nodes d.den)) den, b)
+    no_select_limit num den _ b = b
+
+    first_select : (256 < length (nodes d.num)) ⊎ (256 < length (nodes d.den)) → BeyondFirst limit.Formula earlier of_select
+    first_select large = record { beyond = large; first = rest } where
+      rest : (other : LimitKind) → Beyond earlier of_select other → 8 ≤ limit_rank other
+      rest limit.Number b = absurd (both_ways (list_any is_great lexemes) fine (great_to lexemes b))
+      rest limit.Name b = absurd (both_ways (list_any is_long lexemes) short (long_to lexemes b))
+      rest limit.Formula b = omega arith
+      rest _ b = absurd b
+
+    select_finds : Finds earlier of_select (select_limit d)
+    select_finds = at (is_large d.num) (is_large d.den) refl refl where
+      at : (a b : Bool) → is_large d.num ≡ a → is_large d.den ≡ b → Finds earlier of_select (if a || b then Some limit.Formula else None)
+      at true b num den = first_select (inl (ltb-true 256 (length (nodes d.num)) num))
+      at false true num den = first_select (inr (ltb-true 256 (length (nodes d.den)) den))
+      at false false num den = λ beyond. no_select_limit num den beyond.0 beyond.1
+
+  -- ---- the version
+
+  no_version_limit : (what : LimitKind) → Beyond earlier (record { lexemes = lexemes; defines = OfVersion }) what → ⊥
+  no_version_limit limit.Number b = both_ways (list_any is_great lexemes) fine (great_to lexemes b)
+  no_version_limit limit.Name b = both_ways (list_any is_long lexemes) short (long_to lexemes b)
+  no_version_limit _ b = b
+
   -- ---- a STAR
 
   module _ (s : StarDef) where
@@ -204,6 +240,8 @@ module _ (earlier : List RuleStatement) (lexemes : List Lexeme) (fine : list_any
             (λ x _. not_params h.0 x) (λ x _. not_alternatives h.1 x) (λ x _. not_ranges h.2 x) (λ x _. not_stars h.3 x) (λ x _. not_deep h.4 x) (omega arith)
 
   definition_finds : (definition : Definition) → Finds earlier (record { lexemes = lexemes; defines = definition }) (definition_limit (count_of_stars earlier) definition)
+  definition_finds OfVersion = λ beyond. no_version_limit beyond.0 beyond.1
+  definition_finds (OfSelect d) = select_finds d
   definition_finds (OfFormula d) = formula_finds d
   definition_finds (OfStar s) = star_finds s
 

@@ -8,29 +8,31 @@ use Rattle.sb_text.specs.declared.token.Token.{Token}
 use Rattle.spelling.specs.Lexemes.{Lexeme, MaybeEnded, ended, statements_in}
 use Rattle.star_model.specs.Every.{Every}
 use Rattle.spelling.specs.Cursors.{part_said, IsPartOf}
-use Rattle.spelling.specs.Firsts.{FirstFrom}
-use Rattle.spelling.specs.Syntax.{IsUnderstood, IsStrangeAt}
-use Rattle.rule_grammar.specs.Rules as rule
-use Rattle.rule_grammar.specs.Rules.{Definition, OfFormula, OfStar, SpellsFormulaDef, SpellsStar}
-use Rattle.rule_grammar.specs.RuleLimits.{RuleStatement, SpellsNumbered, SpellsDefinition, AreSpelled, SaysRules}
+use Rattle.spelling.specs.Firsts.{FirstFrom, FirstAt}
+use Rattle.spelling.specs.Syntax.{IsUnderstood}
+use Rattle.star_model.specs.declared.rules.RuleFile.{RuleFile}
+use Rattle.rule_grammar.specs.RuleLimits.{RuleStatement, SpellsNumbered, AreSpelled, version_said, SaysRules}
 use Rattle.spelling.proofs.Laws.{parts_said, parts_hold, parts_few}
 use Rattle.star_syntax.specs.declared.statements.RulesSoFar.{RulesSoFar}
 use Rattle.star_syntax.specs.Statements.{lists_of, AreSoFar, GoesOn}
+use Rattle.star_syntax.specs.Faults.{IsStrange, IsStrangeAt}
+use Rattle.star_syntax.specs.Versions.{version_in, version_of_text}
 use Rattle.star_syntax.proofs.SoFarLaws.{more_so_far}
+use Rattle.star_syntax.proofs.VersionLaws.{statements_say}
 
 -- these statements were read, and those parts of the source are left
 pub record IsReading (source : List ℕ) (done : List RuleStatement) (left : List Part) (read : RulesSoFar) (number : ℕ) : Type 0 where
   pub said : statements_in source ≡ map ended (lists_of done) ++ map (part_said source) left
-  pub so_far : AreSoFar done read
+  pub so_far : AreSoFar (version_of_text source) done read
   pub tokens : Every (IsPartOf source) left
   pub place : number ≡ length done + 1
   pub few : number + length left ≤ 1048577
 
 pub nothing_read : (source : List ℕ) (tokens : List Token) → AreTokens source tokens → length source ≤ 1048576
-    → IsReading source [] (parts tokens) (record { rules = record { formulas = []; stars = [] }; beyond = None }) 1
+    → IsReading source [] (parts tokens) (record { rules = record { version = version_of_text source; selects = []; formulas = []; stars = [] }; beyond = None }) 1
 nothing_read source tokens are short = record {
   said = parts_said source tokens are;
-  so_far = record { spelled = tt; define = rule.none; stars = refl; limit = tt };
+  so_far = record { spelled = tt; rules = refl; limit = tt };
   tokens = parts_hold source tokens are;
   place = omega arith;
   few = omega (arith, parts_few source tokens are, short);
@@ -53,7 +55,7 @@ one_read source done part left later read after number reading cut on =
       record {
         said = said ∙ ap (λ s. map ended (lists_of done) ++ (s ∷ map (part_said source) later)) (is_ended (part_said source part) on.ended)
             ∙ sym (append_assoc (map ended (lists_of done)) (ended x.lexemes ∷ []) (map (part_said source) later)) ∙ ap (λ l. l ++ map (part_said source) later) (sym lists);
-        so_far = more_so_far done number (part_said source part) read after reading.so_far reading.place on;
+        so_far = more_so_far (version_of_text source) done number (part_said source part) read after reading.so_far reading.place on;
         tokens = every.1;
         place = omega (arith, reading.place, length-append done (x ∷ []));
         few = omega (arith, reading.few, size);
@@ -62,29 +64,44 @@ one_read source done part left later read after number reading cut on =
 
 -- ---- the first that isn't understood
 
-unnumbered : (n : ℕ) (lexemes : List Lexeme) (definition : Definition) → SpellsNumbered n lexemes definition → SpellsDefinition lexemes definition
-unnumbered n lexemes (OfFormula d) spells = subst (λ (k : ℕ). SpellsFormulaDef k lexemes d) (sym spells.number) spells
-unnumbered n lexemes (OfStar s) spells = subst (λ (k : ℕ). SpellsStar k lexemes s) (sym spells.number) spells
+pub understood : (version n k : ℕ) (s : RuleStatement) → SpellsNumbered version n s.lexemes s.defines → n ≡ k → IsUnderstood (SpellsNumbered version k) (ended s.lexemes)
+understood version n k s spells place = (s.defines, subst (λ (j : ℕ). SpellsNumbered version j s.lexemes s.defines) place spells)
 
-pub understood : (n : ℕ) (s : RuleStatement) → SpellsNumbered n s.lexemes s.defines → IsUnderstood SpellsDefinition (ended s.lexemes)
-understood n s spells = (s.defines, unnumbered n s.lexemes s.defines spells)
-
-first_strange : (n : ℕ) (done : List RuleStatement) → AreSpelled n done → (before later : List MaybeEnded) (this : MaybeEnded) → (IsUnderstood SpellsDefinition this → ⊥)
-    → FirstFrom (λ _ s. IsUnderstood SpellsDefinition s → ⊥) before (map ended (lists_of done) ++ this ∷ later) (suc (length done))
-first_strange n [] are before later this strange = strange
-first_strange n (s ∷ done) are before later this strange =
-    (λ un. un (understood n s are.0), first_strange (n + 1) done are.1 (before ++ ended s.lexemes ∷ []) later this strange)
+first_strange : (version n : ℕ) (done : List RuleStatement) → AreSpelled version n done → (before later : List MaybeEnded) (this : MaybeEnded) → n ≡ length before + 1
+    → (IsUnderstood (SpellsNumbered version (n + length done)) this → ⊥) → FirstFrom (IsStrange version) before (map ended (lists_of done) ++ this ∷ later) (suc (length done))
+first_strange version n [] are before later this place strange =
+    let same : n + 0 ≡ length before + 1 = omega (arith, place) in
+    subst (λ (k : ℕ). IsUnderstood (SpellsNumbered version k) this → ⊥) same strange
+first_strange version n (s ∷ done) are before later this place strange =
+    let next : n + length (s ∷ done) ≡ n + 1 + length done = omega arith in (
+      (λ un. un (understood version n (length before + 1) s are.0 place)),
+      first_strange version (n + 1) done are.1 (before ++ ended s.lexemes ∷ []) later this (omega (arith, place, length-append before (ended s.lexemes ∷ [])))
+        (subst (λ (k : ℕ). IsUnderstood (SpellsNumbered version k) this → ⊥) next strange),
+    )
 
 pub strange_here : (source : List ℕ) (done : List RuleStatement) (part : Part) (left later : List Part) (read : RulesSoFar) (number : ℕ) → IsReading source done left read number
-    → left ≡ part ∷ later → (IsUnderstood SpellsDefinition (part_said source part) → ⊥) → IsStrangeAt SpellsDefinition source number
+    → left ≡ part ∷ later → (IsUnderstood (SpellsNumbered read.rules.version number) (part_said source part) → ⊥) → IsStrangeAt source number
 strange_here source done part left later read number reading cut strange =
+    let version = version_of_text source in
     let place : number ≡ suc (length done) = reading.place ∙ add-one (length done) in
-    rw (place, reading.said, cut) (first_strange 1 done reading.so_far.spelled [] (map (part_said source) later) (part_said source part) strange)
+    let same : read.rules.version ≡ version = ap (λ (r : RuleFile). r.version) reading.so_far.rules in
+    let here : number ≡ 1 + length done = omega (arith, reading.place) in
+    let not_ : IsUnderstood (SpellsNumbered version (1 + length done)) (part_said source part) → ⊥ =
+    subst (λ (k : ℕ). IsUnderstood (SpellsNumbered version k) (part_said source part) → ⊥) here (subst (λ (v : ℕ). IsUnderstood (SpellsNumbered v number) (part_said source part) → ⊥) same strange) in
+    let list : statements_in source ≡ map ended (lists_of done) ++ (part_said source part ∷ map (part_said source) later) = reading.said ∙ ap (λ l. map ended (lists_of done) ++ map (part_said source) l) cut in
+    let first = first_strange version 1 done reading.so_far.spelled [] (map (part_said source) later) (part_said source part) (omega arith) not_ in
+    subst (λ (k : ℕ). FirstAt (IsStrange version) (statements_in source) k) (sym place) (subst (λ l. FirstAt (IsStrange version) l (suc (length done))) (sym list) first)
 
 -- ---- the end
 
 pub all_read : (source : List ℕ) (tokens : List Token) (done : List RuleStatement) (left : List Part) (read : RulesSoFar) (number : ℕ) → AreTokens source tokens
-    → IsReading source done left read number → left ≡ [] → SaysRules source done × AreSoFar done read
+    → IsReading source done left read number → left ≡ [] → SaysRules source done × AreSoFar (version_of_text source) done read
 all_read source tokens done left read number are reading none =
     let said = reading.said ∙ ap (λ l. map ended (lists_of done) ++ map (part_said source) l) none ∙ append-nil (map ended (lists_of done)) in
-    (record { are = record { all_tokens = ap (λ (l : Lexed). l.1) are.lexed; are = said }; spelled = reading.so_far.spelled }, reading.so_far)
+    let version : version_of_text source ≡ version_said done = ap version_in said ∙ statements_say (version_of_text source) 1 done reading.so_far.spelled in (
+      record {
+        are = record { all_tokens = ap (λ (l : Lexed). l.1) are.lexed; are = said };
+        spelled = subst (λ (v : ℕ). AreSpelled v 1 done) version reading.so_far.spelled;
+      },
+      reading.so_far,
+    )

@@ -1,5 +1,5 @@
 -- The faults of a rule file's text that its reading finds, and what the reading answers.
-use Rattle.std.specs.Prelude.{◌≡◌, ℕ, ◌-◌, ◌≤◌, List, take, slice_get, Some, Result, Ok, Err}
+use Rattle.std.specs.Prelude.{◌≡◌, ℕ, ◌+◌, ◌-◌, ◌≤◌, List, length, take, slice_get, Some, Result, Ok, Err}
 use Rattle.sb_text.specs.Refusal.{fault_of}
 use Rattle.sb_text.specs.declared.token.TextFault.TheVariants as text_fault
 use Rattle.star_model.specs.declared.faults.LimitKind.{LimitKind}
@@ -7,10 +7,20 @@ use Rattle.star_model.specs.declared.faults.RuleFault.{RuleFault}
 use Rattle.star_model.specs.declared.faults.RuleFault.TheVariants.{Lexical, TooDeep, Syntax, Limit, Unknown, Twice, Arity, Kind, Cycle, GlueInAccess, NoRoot, NoFormula, NotMonotone, TooTall, TooWide, Memory}
 use Rattle.star_model.specs.declared.rules.RuleFile.{RuleFile}
 use Rattle.spelling.specs.Firsts.{FirstAt}
-use Rattle.spelling.specs.Syntax.{IsStrangeAt}
+use Rattle.spelling.specs.Lexemes.{MaybeEnded, statements_in}
+use Rattle.spelling.specs.Syntax.{IsUnderstood}
 use Rattle.rule_grammar.specs.Rules.{SpellsRules}
-use Rattle.rule_grammar.specs.RuleLimits.{RuleStatement, SpellsDefinition, SaysRules, IsBeyond, BeyondFirst, KeepsLexemeLimits}
+use Rattle.rule_grammar.specs.RuleLimits.{RuleStatement, SpellsNumbered, SaysRules, IsBeyond, BeyondFirst, KeepsLexemeLimits}
 use Rattle.star_model.specs.WellFormedRules.{WellFormedRules}
+use Rattle.star_syntax.specs.Versions.{version_of_text}
+
+-- Behind these statements of a rule file of this version the statement isn't understood: no `;` ends it, or there it defines nothing.
+abbrev pub IsStrange : ℕ → List MaybeEnded → MaybeEnded → Type 0
+IsStrange version before statement = IsUnderstood (SpellsNumbered version (length before + 1)) statement → ⊥
+
+-- the number, from 1, of the first statement that isn't understood in the version that the text says
+abbrev pub IsStrangeAt : List ℕ → ℕ → Type 0
+IsStrangeAt text k = FirstAt (IsStrange (version_of_text text)) (statements_in text) k
 
 -- the statement with this number, from 1, is the first beyond a limit, and this is the first limit that it goes beyond
 pub record IsLimitAt (statements : List RuleStatement) (k : ℕ) (what : LimitKind) : Type 0 where
@@ -23,7 +33,7 @@ pub record IsLimitAt (statements : List RuleStatement) (k : ℕ) (what : LimitKi
 abbrev pub HasFault : List ℕ → RuleFault → Type 0
 HasFault text (Lexical offset) = fault_of text ≡ Some (text_fault.Lexical offset)
 HasFault text (TooDeep k) = fault_of text ≡ Some (text_fault.TooDeep k)
-HasFault text (Syntax k) = IsStrangeAt SpellsDefinition text k
+HasFault text (Syntax k) = IsStrangeAt text k
 HasFault text (Limit k what) = (statements : List RuleStatement) × SaysRules text statements × IsLimitAt statements k what
 HasFault text (Unknown k) = ⊥
 HasFault text (Twice k) = ⊥

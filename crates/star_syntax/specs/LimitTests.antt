@@ -1,15 +1,17 @@
 -- The limits of a statement as tests, in their order.
-use Rattle.std.specs.Prelude.{ℕ, Bool, false, nat_lt, nat_le, length, Option, Some, None, if◌then◌else◌}
+use Rattle.std.specs.Prelude.{ℕ, Bool, false, ◌||◌, nat_lt, nat_le, length, Option, Some, None, if◌then◌else◌}
 use Rattle.std.specs.List.{list_any}
 use Rattle.star_model.specs.Numbers.{top}
 use Rattle.star_model.specs.Monotone.{nodes}
+use Rattle.star_model.specs.declared.formula.Formula.{Formula}
 use Rattle.star_model.specs.declared.faults.LimitKind.{LimitKind}
 use Rattle.star_model.specs.declared.faults.LimitKind.TheVariants as limit
 use Rattle.star_model.specs.declared.rules.StarDef.{StarDef}
 use Rattle.star_model.specs.declared.rules.Alternative.{Alternative}
 use Rattle.star_model.specs.declared.rules.FormulaDef.{FormulaDef}
+use Rattle.star_model.specs.declared.rules.SelectDef.{SelectDef}
 use Rattle.spelling.specs.Lexemes.{Lexeme, Word, Number, Text, Symbol}
-use Rattle.rule_grammar.specs.Rules.{Definition, OfFormula, OfStar}
+use Rattle.rule_grammar.specs.Rules.{Definition, OfVersion, OfSelect, OfFormula, OfStar}
 use Rattle.rule_grammar.specs.RuleLimits.{RuleStatement}
 use Rattle.star_model.specs.WellFormedRules.{nesting}
 
@@ -41,10 +43,18 @@ star_limit stars s =
     else if list_any is_deep s.alternatives then Some limit.Depth
     else None
 
+abbrev pub is_large : Formula → Bool
+is_large f = nat_lt 256 (length (nodes f))
+
 abbrev pub formula_limit : FormulaDef → Option LimitKind
-formula_limit d = if nat_lt 256 (length (nodes d.formula)) then Some limit.Formula else None
+formula_limit d = if is_large d.formula then Some limit.Formula else None
+
+abbrev pub select_limit : SelectDef → Option LimitKind
+select_limit d = if is_large d.num || is_large d.den then Some limit.Formula else None
 
 abbrev pub definition_limit : ℕ → Definition → Option LimitKind
+definition_limit stars OfVersion = None
+definition_limit stars (OfSelect d) = select_limit d
 definition_limit stars (OfFormula d) = formula_limit d
 definition_limit stars (OfStar s) = star_limit stars s
 

@@ -8,6 +8,7 @@ mod read;
 mod statement;
 mod statements;
 pub mod theorems;
+mod version;
 
 pub use read::read_rules;
 pub use rule_printing::print_rules;

@@ -5,7 +5,7 @@ ghost use Rattle.star_model.specs.Monotone.{nodes};
 ghost use Rattle.spelling.specs.Cursors.{AreTokensOf};
 ghost use Rattle.spelling.specs.Lexemes.{lexemes_of};
 ghost use Rattle.star_model.specs.WellFormedRules.{nesting};
-ghost use Rattle.star_syntax.specs.LimitTests.{has_many_ranges, is_deep, star_limit, formula_limit, limit_beyond};
+ghost use Rattle.star_syntax.specs.LimitTests.{has_many_ranges, is_deep, is_large, star_limit, formula_limit, select_limit, limit_beyond};
 ghost use Rattle.star_syntax.specs.Definitions.{defined, HasFewNodes};
 
 use crate::definition::Definition;
@@ -13,7 +13,7 @@ use crate::lexeme_limits::{has_great_number, has_long_word};
 use sb_text::Token;
 use star_model::faults::LimitKind;
 use star_model::formula::Formula;
-use star_model::rules::{Alternative, FormulaDef, PlanExpr, StarDef};
+use star_model::rules::{Alternative, FormulaDef, PlanExpr, SelectDef, StarDef};
 
 const MOST_PARAMS: usize = 8;
 
@@ -128,11 +128,30 @@ fn star_limit(stars: usize, star: &StarDef) -> Option<LimitKind>
     }
 }
 
+fn is_large(formula: &Formula) -> bool
+    requires { length (nodes formula.now) < 2 ^ 64 }
+    ensures { result ≡ is_large formula.now }
+{
+    count_nodes(formula) > MOST_NODES
+}
+
 fn formula_limit(definition: &FormulaDef) -> Option<LimitKind>
     requires { length (nodes definition.now.formula) < 2 ^ 64 }
     ensures { result ≡ formula_limit definition.now }
 {
-    if count_nodes(&definition.formula) > MOST_NODES {
+    if is_large(&definition.formula) {
+        Some(LimitKind::Formula)
+    } else {
+        None
+    }
+}
+
+fn select_limit(definition: &SelectDef) -> Option<LimitKind>
+    requires num { length (nodes definition.now.num) < 2 ^ 64 }
+    requires den { length (nodes definition.now.den) < 2 ^ 64 }
+    ensures { result ≡ select_limit definition.now }
+{
+    if is_large(&definition.num) || is_large(&definition.den) {
         Some(LimitKind::Formula)
     } else {
         None
@@ -157,6 +176,8 @@ pub fn limit_beyond(
         return Some(LimitKind::Name);
     }
     match definition {
+        Definition::Version => None,
+        Definition::Select(definition) => select_limit(definition),
         Definition::Formula(definition) => formula_limit(definition),
         Definition::Star(star) => star_limit(stars, star),
     }

@@ -6,10 +6,12 @@ ghost use Rattle.spelling.specs.Cursors.{AreTokensOf, part_said};
 ghost use Rattle.spelling.specs.Lexemes.{lexemes_of};
 ghost use Rattle.star_syntax.specs.Definitions.{defined, HasFewNodes};
 ghost use Rattle.star_syntax.specs.Statements.{with_definition, StatementRead, StatementsRead, limit_so_far};
+ghost use Rattle.star_syntax.specs.Versions.{version_of_text};
 
 use crate::definition::Definition;
 use crate::limits::limit_beyond;
 use crate::statement::read_definition;
+use crate::version::version_by;
 use sb_text::{Statement, Token, statements};
 use spelling::Unread;
 use star_model::faults::{LimitKind, RuleFault};
@@ -31,6 +33,8 @@ fn push(rules: &mut RuleFile, definition: Definition) -> Result<(), AllocError>
     ensures { OnOk result (rules.new ≡ with_definition rules.old (defined definition)) }
 {
     match definition {
+        Definition::Version => Ok(()),
+        Definition::Select(definition) => rules.selects.push(definition),
         Definition::Formula(definition) => rules.formulas.push(definition),
         Definition::Star(star) => rules.stars.push(star),
     }
@@ -70,10 +74,22 @@ impl RulesSoFar {
         requires { AreTokensOf source.now statement.now.tokens.now }
         ensures { StatementRead number (part_said source.now (part_of statement.now)) self.old result self.new }
     {
-        let definition = read_definition(alloc, source, statement, number)?;
+        let version = self.rules.version;
+        let definition = read_definition(alloc, source, statement, number, version)?;
         self.beyond = self.limit_with(source, statement.tokens, number, &definition);
         push(&mut self.rules, definition)?;
         Ok(())
+    }
+}
+
+// The version that the text of these tokens says.
+fn said_version(source: &[u8], tokens: &[Token]) -> u8
+    requires { AreTokens source.now tokens.now }
+    ensures { result ≡ version_of_text source.now }
+{
+    match statements(tokens).next() {
+        Some(first) => version_by(source, &first),
+        None => 1,
     }
 }
 
@@ -89,6 +105,8 @@ pub fn read_statements(
 {
     let mut read = RulesSoFar {
         rules: RuleFile {
+            version: said_version(source, tokens),
+            selects: List::new(alloc),
             formulas: List::new(alloc),
             stars: List::new(alloc),
         },

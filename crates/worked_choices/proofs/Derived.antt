@@ -1,18 +1,17 @@
 -- Each vector of the query's goal is one of the three.
-use Rattle.std.proofs.Common.{◌≡◌, ℕ, ◌-◌, zero, suc, Bool, true, false, ◌&&◌, nat_eq, List, [], ◌∷◌, Option, Some, None, codes, refl, ap, sym, subst, ◌∙◌, if◌then◌else◌, ◌⊎◌, inl, inr}
+use Rattle.std.proofs.Common.{◌≡◌, ℕ, ◌-◌, zero, suc, Bool, true, false, nat_eq, List, [], ◌∷◌, Option, Some, None, codes, refl, ap, sym, subst, ◌∙◌, if◌then◌else◌, ◌⊎◌, inl, inr}
 use Rattle.std.specs.Prelude.{slice_get, option_and_then}
-use Rattle.std.specs.Option.{option_map, option_map_or}
+use Rattle.std.specs.Option.{option_map}
 use Rattle.star_model.specs.Costs.{costs_of}
 use Rattle.star_model.specs.Sets.{places, has, members}
 use Rattle.star_model.specs.Operators.{step}
 use Rattle.star_model.specs.Meaning.{meaning, plain}
-use Rattle.star_model.specs.Stars.{alternative_of, numbered}
+use Rattle.star_model.specs.Stars.{alternative_of}
 use Rattle.star_model.specs.Expected.{Expected, ForGoal, Call, Expression, root_call, may_split, body_of, bound, meets, operator_of, values_of}
-use Rattle.star_model.specs.Derivations.{HasVector, IsOfGoal}
+use Rattle.star_model.specs.Derivations.{IsOfGoal}
 use Rattle.star_model.specs.PlanExprCases as expr
 use Rattle.star_model.specs.declared.rules.PlanExpr.TheVariants as made
 use Rattle.star_model.specs.declared.rules.PlanExpr.{PlanExpr}
-use Rattle.star_model.specs.declared.rules.ValueExpr.{ValueExpr}
 use Rattle.star_model.specs.declared.rules.ValueExpr.TheVariants as value
 use Rattle.star_model.specs.declared.rules.Alternative.{Alternative}
 use Rattle.star_model.specs.declared.rules.Flavour.TheVariants as flavour
@@ -21,7 +20,7 @@ use Rattle.star_model.specs.declared.plans.Op.TheVariants as op
 use Rattle.star_model.specs.declared.plans.Props.{Props}
 use Rattle.star_model.specs.declared.values.RuleValue.{RuleValue}
 use Rattle.star_model.specs.declared.values.RuleValue.TheVariants as is
-use Rattle.lolepop.specs.Derived.{DerivedPlan, vector_of, derived_leaf, derived_unary}
+use Rattle.lolepop.specs.Derived.{DerivedPlan, vector_of}
 use Rattle.exchange.specs.Places.{IsDerived}
 use Rattle.exchange.proofs.Laws.{leaf_ways, unary_ways, call_ways, goal_ways, plan_of_vector}
 use Rattle.worked_choices.specs.Storing.{query, rules, read_alone, and_stored, stored_again}
