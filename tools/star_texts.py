@@ -9,7 +9,7 @@ TOKEN = re.compile(r"[A-Za-z_]\w*|\d+|'(?:[^']|'')*'|<=|<>|>=|[-()\[\]{},;.|=<>+
 
 VARIABLES = {
     word.lower(): word
-    for word in "Cost1 Rescan1 Card1 Width1 Cost2 Rescan2 Card2 Width2 Card Width Rows Pages Preds Cpu Net One".split()
+    for word in "Cost1 Rescan1 Card1 Width1 Cost2 Rescan2 Card2 Width2 Card Width Rows Pages Preds Cpu Net One Distinct1 Rows1 Distinct2 Rows2".split()
 }
 # each flavour, with the number of its inputs
 FLAVOURS = {
@@ -24,7 +24,10 @@ FLAVOURS = {
     "JOIN_NL": ("JoinNl", 2),
     "JOIN_MERGE": ("JoinMerge", 2),
     "JOIN_HASH": ("JoinHash", 2),
+    "INTERSECT": ("Intersect", 2),
 }
+# classes of predicates
+CLASSES = {"EQ_CONST": "EqConst", "EQ_COLUMN": "EqColumn", "NE": "Ne", "LESS": "Less"}
 TESTS = {"<": "Lt", "<=": "Le", "=": "Eq"}
 COMPARISONS = {"=": "Eq", "<>": "Ne", "<": "Lt", "<=": "Le", ">": "Gt", ">=": "Ge"}
 FUNCTIONS = "tables inside crossing between equalities indexable columns keys home union minus meet".split()
@@ -211,6 +214,15 @@ class RuleReader(Reader):
         of = "" if what == "sites" else f" {self.arguments(names)[0]}"
         return f"range.{what.title()}{of}"
 
+    def selectivity(self, statement):
+        of_class = CLASSES[self.next()]
+        self.expect("=")
+        num = self.formula()
+        self.expect("per")
+        den = self.formula()
+        self.expect(";")
+        return f"record {{ statement = {statement}; class = class.{of_class}; num = {num}; den = {den} }}"
+
     def formula_statement(self, statement, which):
         flavour = FLAVOURS[self.next()][0]
         self.expect("=")
@@ -219,24 +231,36 @@ class RuleReader(Reader):
         return f"record {{ statement = {statement}; flavour = flavour.{flavour}; which = which.{which}; formula = {formula} }}"
 
 
+def version(reader):
+    """The version of a rule file, whose statement is taken where there is one."""
+    if reader.tokens[:3] != ["version", "2", ";"]:
+        return 1
+    reader.at = 3
+    return 2
+
+
 def rules(text):
-    """The formulas and the STARs of a rule file."""
-    reader, formulas, stars, statement = RuleReader(text), [], [], 0
+    """The version, the selectivities, the formulas and the STARs of a rule file."""
+    reader, selects, formulas, stars = RuleReader(text), [], [], []
+    of_version = version(reader)
+    statement = of_version - 1
     while reader.peek():
         statement += 1
         word = reader.next()
         if word == "star":
             stars.append(reader.star(statement))
+        elif word == "selectivity":
+            selects.append(reader.selectivity(statement))
         else:
             formulas.append(reader.formula_statement(statement, word.title()))
-    return formulas, stars
+    return of_version, selects, formulas, stars
 
 
 class Names:
-    """The names of a catalogue, by which a query finds their positions."""
+    """The names of a catalogue, by which a query finds their positions, and the distinct values of its columns."""
 
     def __init__(self):
-        self.sites, self.tables, self.columns, self.indexes = [], [], {}, []
+        self.sites, self.tables, self.columns, self.indexes, self.distinct = [], [], {}, [], {}
 
 
 def catalogue(text):
@@ -250,7 +274,8 @@ def catalogue(text):
         width = reader.next()
         reader.expect("distinct")
         names.columns[table].append(name)
-        return f"record {{ name = {codes(name)}; kind = type.{kind.title()}; width = {width}; distinct = {reader.next()} }}"
+        names.distinct[table, name] = int(reader.next())
+        return f"record {{ name = {codes(name)}; kind = type.{kind.title()}; width = {width}; distinct = {names.distinct[table, name]} }}"
 
     while reader.peek():
         what, name = reader.next(), reader.next()
@@ -302,8 +327,9 @@ class QueryReader(Reader):
         quantifier = self.next()
         self.expect(".")
         number = [name for name, _ in self.quantifiers].index(quantifier)
-        column = self.names.columns[self.quantifiers[number][1]].index(self.next())
-        return f"record {{ quant = record {{ 0 = {number} }}; column = {column} }}"
+        table, name = self.quantifiers[number][1], self.next()
+        self.distinct = self.names.distinct[table, name]
+        return f"record {{ quant = record {{ 0 = {number} }}; column = {self.names.columns[table].index(name)} }}"
 
     def columns(self):
         self.expect("[")
@@ -350,8 +376,12 @@ class QueryReader(Reader):
         return f"operand.Column ({self.column()})"
 
     def predicate(self):
-        left, comparison = self.column(), COMPARISONS[self.next()]
-        return f"record {{ left = {left}; cmp = cmp.{comparison}; right = {self.operand()} }}"
+        """A predicate with the selectivity that it has where no rule file gives one."""
+        left, distinct, comparison = self.column(), self.distinct, COMPARISONS[self.next()]
+        self.distinct = 1
+        right = self.operand()
+        den = max(1, distinct, self.distinct) if comparison == "Eq" else 1 if comparison == "Ne" else 3
+        return f"record {{ left = {left}; cmp = cmp.{comparison}; right = {right}; num = 1; den = {den} }}"
 
     def query(self, catalogue_name):
         self.expect("select")
@@ -459,9 +489,10 @@ class VectorReader(QueryReader):
             "Probe": [self.columns, self.set],
             "JoinMerge": [self.set, self.set],
             "JoinHash": [self.set, self.set],
+            "Intersect": [],
         }.get(flavour, [self.set])
         parts = self.parts([self.vector] * count + arguments)
-        return f"(op.{flavour} {' '.join(parts[count:])})", list_of(parts[:count])
+        return f"({' '.join([f'op.{flavour}', *parts[count:]])})", list_of(parts[:count])
 
     def parts(self, readers):
         """What stands in brackets, between commas."""

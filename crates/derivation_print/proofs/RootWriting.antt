@@ -123,6 +123,7 @@ inputs_at flavour.Probe = refl
 inputs_at flavour.JoinNl = refl
 inputs_at flavour.JoinMerge = refl
 inputs_at flavour.JoinHash = refl
+inputs_at flavour.Intersect = refl
 
 same_inputs : (f g : Flavour) → same_flavour f g ≡ true → inputs_of f ≡ inputs_of g
 same_inputs f g e = inputs_at f ∙ ap inputs_by_row (eqb-true (row_of f) (row_of g) e) ∙ sym (inputs_at g)

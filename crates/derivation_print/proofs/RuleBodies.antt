@@ -1,5 +1,5 @@
 -- What derivations need of the STARs of a spelled rule file: operators with their inputs, and names that are words.
-use Rattle.std.proofs.Common.{◌≡◌, ℕ, ◌≤◌, List, [], ◌∷◌, map, length, subst, flat_map}
+use Rattle.std.proofs.Common.{◌≡◌, ℕ, ◌≤◌, List, [], ◌∷◌, ◌++◌, map, length, subst, flat_map}
 use Rattle.sb_text.specs.Forms.{IsWord}
 use Rattle.star_model.specs.PlanExprCases as expr
 use Rattle.star_model.specs.declared.rules.PlanExpr.{PlanExpr}
@@ -7,14 +7,15 @@ use Rattle.star_model.specs.declared.rules.PlanExpr.TheVariants as plain
 use Rattle.star_model.specs.declared.rules.Alternative.{Alternative}
 use Rattle.star_model.specs.declared.rules.StarDef.{StarDef}
 use Rattle.star_model.specs.declared.rules.FormulaDef.{FormulaDef}
+use Rattle.star_model.specs.declared.rules.SelectDef.{SelectDef}
 use Rattle.star_model.specs.declared.rules.RuleFile.{RuleFile}
 use Rattle.spelling.specs.Lexemes.{Lexeme, comma, bar, equals, right_bracket, joined_by, call}
 use Rattle.star_model.specs.Every.{Every}
 use Rattle.star_model.specs.Kinds.{inputs_of}
 use Rattle.rule_grammar.specs.Values.{value_lexemes}
 use Rattle.rule_grammar.specs.Rules as spec
-use Rattle.rule_grammar.specs.Rules.{plan_lexemes, for_lexemes, when_lexemes, alternative_lexemes, parameter_lexemes, star_lexemes, SpellsDefinitions, SpellsRules, HasFewParts, KeepsCounts}
-use Rattle.star_model.specs.WellFormedRules.{IsPlan, IsAlternative, scope_of, parameters_of, IsStar, HasFewRanges}
+use Rattle.rule_grammar.specs.Rules.{plan_lexemes, for_lexemes, when_lexemes, alternative_lexemes, parameter_lexemes, star_lexemes, version_statements, SpellsDefinitions, SpellsRules, HasFewParts, KeepsCounts}
+use Rattle.star_model.specs.WellFormedRules.{Scope, IsPlan, IsAlternative, scope_of, scope_of_star, IsStar, HasFewRanges}
 use Rattle.spelling.specs.FormedLexemes.{Formed, every_front, every_back}
 use Rattle.spelling.proofs.Laws.{formed_statements}
 
@@ -36,7 +37,7 @@ second_formed a b items h = first_formed b items (every_back _ a (comma ∷ join
 inside_call : (word : List ℕ) (items : List (List Lexeme)) → Formed (call word items) → Formed (joined_by comma items)
 inside_call word items h = every_front _ (joined_by comma items) (right_bracket ∷ []) h.1.1
 
-body_ok : (scope : List (List ℕ)) (e : PlanExpr) → IsPlan scope e → Formed (plan_lexemes e) → BodyOk e
+body_ok : (scope : Scope) (e : PlanExpr) → IsPlan scope e → Formed (plan_lexemes e) → BodyOk e
 unfolding IsPlan plan_lexemes BodyOk
 body_ok scope (plain.Reference star arguments) h w = w.0
 body_ok scope (plain.Glue stream preds) h w = tt
@@ -56,7 +57,7 @@ pub record StarOk (s : StarDef) : Type 0 where
   pub alternatives : Every AlternativeOk s.alternatives
   pub few : length s.alternatives ≤ 65535
 
-alternatives_ok : (parameters : List (List ℕ)) (rest : List Alternative) → Every (IsAlternative parameters) rest → Formed (joined_by bar (map alternative_lexemes rest)) → Every HasFewRanges rest → Every AlternativeOk rest
+alternatives_ok : (parameters : Scope) (rest : List Alternative) → Every (IsAlternative parameters) rest → Formed (joined_by bar (map alternative_lexemes rest)) → Every HasFewRanges rest → Every AlternativeOk rest
 alternatives_ok parameters [] h w few = tt
 alternatives_ok parameters (a ∷ rest) h w few = (one_ok a (first_of a rest w) h.0 few.0, alternatives_ok parameters rest h.1 (rest_of a rest w) few.1) where
   first_of : (a : Alternative) (rest : List Alternative) → Formed (joined_by bar (map alternative_lexemes (a ∷ rest))) → Formed (alternative_lexemes a)
@@ -73,16 +74,19 @@ alternatives_ok parameters (a ∷ rest) h w few = (one_ok a (first_of a rest w) 
     few = few;
   }
 
-star_ok : (s : StarDef) → IsStar s → Formed (star_lexemes s) → HasFewParts s → StarOk s
-star_ok s h w few = record {
-  alternatives = alternatives_ok (parameters_of s) s.alternatives h.alternatives (every_back _ (call s.name (map parameter_lexemes s.params)) (equals ∷ joined_by bar (map alternative_lexemes s.alternatives)) w.1).1 few.ranges;
+star_ok : (version : ℕ) (s : StarDef) → IsStar version s → Formed (star_lexemes s) → HasFewParts s → StarOk s
+star_ok version s h w few = record {
+  alternatives = alternatives_ok (scope_of_star version s) s.alternatives h.alternatives (every_back _ (call s.name (map parameter_lexemes s.params)) (equals ∷ joined_by bar (map alternative_lexemes s.alternatives)) w.1).1 few.ranges;
   few = few.alternatives;
 }
 
-stars_ok : {n : ℕ} {statements : List (List Lexeme)} {fs : List FormulaDef} {ss : List StarDef} → SpellsDefinitions n statements fs ss → Every Formed statements → Every HasFewParts ss → Every StarOk ss
+stars_ok : {version n : ℕ} {statements : List (List Lexeme)} {ds : List SelectDef} {fs : List FormulaDef} {ss : List StarDef} → SpellsDefinitions version n statements ds fs ss → Every Formed statements → Every HasFewParts ss → Every StarOk ss
 stars_ok spec.none h few = tt
+stars_ok (spec.select p later) h few = stars_ok later h.1 few
 stars_ok (spec.formula p later) h few = stars_ok later h.1 few
-stars_ok (spec.star {s = s} p later) h few = (star_ok s p.stands (subst Formed p.are h.0) few.0, stars_ok later h.1 few.1)
+stars_ok (spec.star {version = version} {s = s} p later) h few = (star_ok version s p.stands (subst Formed p.are h.0) few.0, stars_ok later h.1 few.1)
 
 pub spelled_stars : (text : List ℕ) (rules : RuleFile) → SpellsRules text rules → KeepsCounts rules → Every StarOk rules.stars
-spelled_stars text rules p few = stars_ok p.define (formed_statements text p.statements p.are) few
+spelled_stars text rules p few =
+    let version = version_statements rules.version in
+    stars_ok p.define (every_back Formed version p.statements (formed_statements text (version ++ p.statements) p.are)) few

@@ -160,6 +160,7 @@ flavour_form flavour.Probe = refl
 flavour_form flavour.JoinNl = refl
 flavour_form flavour.JoinMerge = refl
 flavour_form flavour.JoinHash = refl
+flavour_form flavour.Intersect = refl
 
 not_flavour : (word : List ℕ) (f : Flavour) (r s : List Lexeme) → (form_of (Word word) ≡ 3 → ⊥) → Word word ∷ r ≡ Word (flavour_word f) ∷ s → ⊥
 not_flavour word f r s other e = other (ap form_of (heads _ _ r s e).0 ∙ flavour_form f)

@@ -35,6 +35,7 @@ a_flavour flavour.Probe = given_word (codes "PROBE") refl
 a_flavour flavour.JoinNl = given_word (codes "JOIN_NL") refl
 a_flavour flavour.JoinMerge = given_word (codes "JOIN_MERGE") refl
 a_flavour flavour.JoinHash = given_word (codes "JOIN_HASH") refl
+a_flavour flavour.Intersect = given_word (codes "INTERSECT") refl
 
 -- ---- sets
 

@@ -55,6 +55,7 @@ input_counts flavour.Probe = inr (inl refl)
 input_counts flavour.JoinNl = inr (inr refl)
 input_counts flavour.JoinMerge = inr (inr refl)
 input_counts flavour.JoinHash = inr (inr refl)
+input_counts flavour.Intersect = inr (inr refl)
 
 join_operator : (f : Flavour) (old : List Deriv) → inputs_of f ≤ length old → Every HasInputs old → (inputs_of f ≡ 0) ⊎ ((inputs_of f ≡ 1) ⊎ (inputs_of f ≡ 2)) → Joined (Operator f) old
 unfolding steps HasInputs

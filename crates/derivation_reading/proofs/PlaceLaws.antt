@@ -20,6 +20,7 @@ few_of flavour.Probe = omega arith
 few_of flavour.JoinNl = omega arith
 few_of flavour.JoinMerge = omega arith
 few_of flavour.JoinHash = omega arith
+few_of flavour.Intersect = omega arith
 
 pub few_inputs : (node : Step) → inputs node ≤ 2
 few_inputs (Glue chain) = omega arith

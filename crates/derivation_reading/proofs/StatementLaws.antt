@@ -109,6 +109,7 @@ operator_read flavour.Probe = refl
 operator_read flavour.JoinNl = refl
 operator_read flavour.JoinMerge = refl
 operator_read flavour.JoinHash = refl
+operator_read flavour.Intersect = refl
 
 -- ---- what is spelled is read
 

@@ -25,6 +25,7 @@ pub fn inputs_of(flavour: Flavour) -> u32
         Flavour::JoinNl => 2,
         Flavour::JoinMerge => 2,
         Flavour::JoinHash => 2,
+        Flavour::Intersect => 2,
     }
 }
 

@@ -20,6 +20,7 @@ step-three q costs (op.Probe c p) u v w more = refl
 step-three q costs (op.JoinNl p) u v w more = refl
 step-three q costs (op.JoinMerge m p) u v w more = refl
 step-three q costs (op.JoinHash m p) u v w more = refl
+step-three q costs op.Intersect u v w more = refl
 
 pub step-many : (q : Query) (costs : List CostEntry) (o : Op) (vs : List Props) → 3 ≤ length vs → step q costs o vs ≡ None
 step-many q costs o [] h = absurd (omega arith)
@@ -47,3 +48,4 @@ has_input q (op.Probe c p) [] a h = cc
 has_input q (op.JoinNl p) [] a h = cc
 has_input q (op.JoinMerge m p) [] a h = cc
 has_input q (op.JoinHash m p) [] a h = cc
+has_input q op.Intersect [] a h = cc

@@ -18,3 +18,4 @@ operator_flavour flavour.Probe vs = refl
 operator_flavour flavour.JoinNl vs = refl
 operator_flavour flavour.JoinMerge vs = refl
 operator_flavour flavour.JoinHash vs = refl
+operator_flavour flavour.Intersect vs = refl

@@ -32,6 +32,10 @@ entry_same var.Preds v h = refl
 entry_same var.Cpu v h = refl
 entry_same var.Net v h = refl
 entry_same var.One v h = refl
+entry_same var.Distinct1 v h = refl
+entry_same var.Rows1 v h = refl
+entry_same var.Distinct2 v h = refl
+entry_same var.Rows2 v h = refl
 
 pub value_same : (f : Formula) (v : Vars) → lacks_width f ≡ true → value f (without_widths v) ≡ value f v
 unfolding lacks_width value

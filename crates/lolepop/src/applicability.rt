@@ -56,7 +56,8 @@ fn may_access(query: &Query, op: &Op) -> bool
         | Op::Probe { .. }
         | Op::JoinNl { .. }
         | Op::JoinMerge { .. }
-        | Op::JoinHash { .. } => false,
+        | Op::JoinHash { .. }
+        | Op::Intersect => false,
     }
 }
 
@@ -80,7 +81,8 @@ fn may_take(query: &Query, op: &Op, input: &Props) -> bool
         | Op::AccessIndex { .. }
         | Op::JoinNl { .. }
         | Op::JoinMerge { .. }
-        | Op::JoinHash { .. } => false,
+        | Op::JoinHash { .. }
+        | Op::Intersect => false,
     }
 }
 
@@ -96,6 +98,9 @@ fn may_join(query: &Query, op: &Op, left: &Props, right: &Props) -> bool
                 && is_sorted_by(query, &keys(query, *merge, right.tables), right)
         }
         Op::JoinHash { merge, preds } => may_hash(query, left, right, *merge, *preds),
+        Op::Intersect => {
+            left.tables == right.tables && is_single(left.tables) && left.site == right.site
+        }
         Op::AccessHeap { .. }
         | Op::AccessIndex { .. }
         | Op::Get { .. }

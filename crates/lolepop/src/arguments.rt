@@ -22,6 +22,7 @@ pub fn flavour_of(op: &Op) -> Flavour
         Op::JoinNl { .. } => Flavour::JoinNl,
         Op::JoinMerge { .. } => Flavour::JoinMerge,
         Op::JoinHash { .. } => Flavour::JoinHash,
+        Op::Intersect => Flavour::Intersect,
     }
 }
 
@@ -37,6 +38,6 @@ pub fn applied(op: &Op) -> PredSet
         | Op::Probe { preds, .. }
         | Op::JoinNl { preds } => *preds,
         Op::JoinMerge { merge, preds } | Op::JoinHash { merge, preds } => merge.union(*preds),
-        Op::Sort { .. } | Op::Store { .. } | Op::Ship { .. } => PredSet::empty(),
+        Op::Sort { .. } | Op::Store { .. } | Op::Ship { .. } | Op::Intersect => PredSet::empty(),
     }
 }

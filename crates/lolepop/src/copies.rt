@@ -43,5 +43,6 @@ pub fn copied_op(op: &Op) -> Op
             merge: *merge,
             preds: *preds,
         },
+        Op::Intersect => Op::Intersect,
     }
 }

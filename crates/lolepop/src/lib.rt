@@ -29,5 +29,6 @@ pub use chains::is_chain;
 pub use copies::copied_op;
 pub use entry::Entry;
 pub use plan_node::PlanNode;
+pub use query_facts::weigh;
 pub use steps::step;
 pub use trace::Trace;

@@ -28,7 +28,8 @@ pub fn tables_after(op: &Op, inputs: &Inputs<'_>) -> QuantSet
         | Op::Probe { .. }
         | Op::JoinNl { .. }
         | Op::JoinMerge { .. }
-        | Op::JoinHash { .. } => inputs.tables(),
+        | Op::JoinHash { .. }
+        | Op::Intersect => inputs.tables(),
     }
 }
 
@@ -51,7 +52,8 @@ fn sorted_by(query: &Query, op: &Op, inputs: &Inputs<'_>) -> ColList
         | Op::Store { .. }
         | Op::Ship { .. }
         | Op::JoinNl { .. }
-        | Op::JoinMerge { .. } => inputs.first_order(),
+        | Op::JoinMerge { .. }
+        | Op::Intersect => inputs.first_order(),
     }
 }
 
@@ -86,7 +88,8 @@ fn site_after(query: &Query, op: &Op, inputs: &Inputs<'_>) -> Site
         | Op::Probe { .. }
         | Op::JoinNl { .. }
         | Op::JoinMerge { .. }
-        | Op::JoinHash { .. } => inputs.first_site(),
+        | Op::JoinHash { .. }
+        | Op::Intersect => inputs.first_site(),
     }
 }
 
@@ -104,7 +107,8 @@ fn temp_after(op: &Op) -> bool
         | Op::Probe { .. }
         | Op::JoinNl { .. }
         | Op::JoinMerge { .. }
-        | Op::JoinHash { .. } => false,
+        | Op::JoinHash { .. }
+        | Op::Intersect => false,
     }
 }
 
@@ -122,7 +126,8 @@ fn path_after(op: &Op) -> ColList
         | Op::Probe { .. }
         | Op::JoinNl { .. }
         | Op::JoinMerge { .. }
-        | Op::JoinHash { .. } => ColList::new(),
+        | Op::JoinHash { .. }
+        | Op::Intersect => ColList::new(),
     }
 }
 
@@ -162,7 +167,8 @@ fn cols_after(query: &Query, op: &Op, inputs: &Inputs<'_>) -> ColSet
         | Op::Probe { .. }
         | Op::JoinNl { .. }
         | Op::JoinMerge { .. }
-        | Op::JoinHash { .. } => inputs.cols(),
+        | Op::JoinHash { .. }
+        | Op::Intersect => inputs.cols(),
     }
 }
 

@@ -49,7 +49,8 @@ fn rows_read(query: &Query, op: &Op) -> Num
         | Op::Probe { .. }
         | Op::JoinNl { .. }
         | Op::JoinMerge { .. }
-        | Op::JoinHash { .. } => Num::cut(0),
+        | Op::JoinHash { .. }
+        | Op::Intersect => Num::cut(0),
     }
 }
 
@@ -77,7 +78,8 @@ fn pages_read(query: &Query, op: &Op) -> Num
         | Op::Probe { .. }
         | Op::JoinNl { .. }
         | Op::JoinMerge { .. }
-        | Op::JoinHash { .. } => Num::cut(0),
+        | Op::JoinHash { .. }
+        | Op::Intersect => Num::cut(0),
     }
 }
 
@@ -118,7 +120,8 @@ fn works_at(op: &Op, inputs: &Inputs<'_>, made: &Props) -> Site
         | Op::Probe { .. }
         | Op::JoinNl { .. }
         | Op::JoinMerge { .. }
-        | Op::JoinHash { .. } => made.site,
+        | Op::JoinHash { .. }
+        | Op::Intersect => made.site,
     }
 }
 
@@ -136,7 +139,8 @@ fn net_of(query: &Query, op: &Op, inputs: &Inputs<'_>) -> Num
         | Op::Probe { .. }
         | Op::JoinNl { .. }
         | Op::JoinMerge { .. }
-        | Op::JoinHash { .. } => Num::cut(0),
+        | Op::JoinHash { .. }
+        | Op::Intersect => Num::cut(0),
     }
 }
 
@@ -219,6 +223,10 @@ pub fn vars_but_widths(query: &Query, op: &Op, inputs: &Inputs<'_>, made: &Props
         preds: Num::cut(u64::from(applied(op).len())),
         cpu: cpu_at(query, works_at(op, inputs, made)),
         net: net_of(query, op, inputs),
+        distinct1: Num::cut(0),
+        rows1: Num::cut(0),
+        distinct2: Num::cut(0),
+        rows2: Num::cut(0),
     }
 }
 

@@ -25,6 +25,10 @@ fn is_width(variable: Var) -> bool
         Var::Cpu => false,
         Var::Net => false,
         Var::One => false,
+        Var::Distinct1 => false,
+        Var::Rows1 => false,
+        Var::Distinct2 => false,
+        Var::Rows2 => false,
     }
 }
 

@@ -33,6 +33,10 @@ fn is_input_cost(variable: Var) -> bool
         Var::Cpu => false,
         Var::Net => false,
         Var::One => false,
+        Var::Distinct1 => false,
+        Var::Rows1 => false,
+        Var::Distinct2 => false,
+        Var::Rows2 => false,
     }
 }
 

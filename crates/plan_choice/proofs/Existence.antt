@@ -83,7 +83,7 @@ each_at P (y ∷ ys) (Each.more _ _ p rest) (suc n) x h = each_at P ys rest n x 
 module _ (q : Query) (formed : WellFormedQuery q) where
   -- the quantifier of a column that is there, and the column's table
   record Stands (c : Col) : Type 0 where
-    quantifier : c.quant.0 < 8
+    quantifier : c.quant.0 < 12
     column : c.column < 32
     member : has (all_quants q) c.quant.0 ≡ true
 
@@ -97,7 +97,7 @@ module _ (q : Query) (formed : WellFormedQuery q) where
       let known = each_at (WellFormedTable (length q.catalogue.sites)) q.catalogue.tables formed.catalogue.tables quantifier.0.table table.0 at in
       let few = formed.some_quantifiers.1 in
       let within = slice_get_within q.quants c.quant.0 quantifier.0 quantifier.1 in
-      let below : c.quant.0 < 8 = omega (arith, few, within) in
+      let below : c.quant.0 < 12 = omega (arith, few, within) in
       let narrow = known.some_columns.1 in
       let inside = slice_get_within table.0.columns c.column column.0 column.1 in
       record {

@@ -1,9 +1,10 @@
 //! What comes of calls over a query, table by table: what the rules' expressions mean for it, what
-//! is in its parts, and what operators make of its tables: vectors, the numbers of plans' nodes,
-//! which plans a set keeps, what Glue makes of a plan, and a derivation beside its plan.
+//! is in its parts, the selectivities of its predicates, and what operators make of its tables:
+//! vectors, the numbers of plans' nodes, which plans a set keeps, what Glue makes of a plan, and a
+//! derivation beside its plan.
 //!
 //! A line of the input names a table, as the library `row_tables` reads it, a catalogue, a query,
-//! and a rule file for the formulas. The texts have the operators of a plan between `; `, each
+//! and a rule file for the formulas and the selectivities. The texts have the operators of a plan between `; `, each
 //! behind its inputs: `ACCESS_HEAP {1} {}; ACCESS_HEAP {2} {1}; JOIN_NL {}` is a join of two
 //! accesses. Quantifiers, predicates and columns have numbers from 1, sites and indexes their
 //! names. An answer is `none` where the last operator isn't applicable. The answers come from an
@@ -23,6 +24,7 @@ mod questions;
 mod texts;
 mod values;
 mod vectors;
+mod weights;
 
 use row_tables::{Tally, read_table};
 use std::io::{self, BufRead, BufReader};

@@ -128,7 +128,8 @@ fn change(query: &Query, word: &str, first: &str, second: &str) -> Option<Op> {
     }
 }
 
-fn join(word: &str, first: &str, second: &str) -> Option<Op> {
+// An operator over two inputs.
+fn over_two(word: &str, first: &str, second: &str) -> Option<Op> {
     match word.as_bytes() {
         b"JOIN_NL" => Some(Op::JoinNl {
             preds: preds(first)?,
@@ -141,6 +142,7 @@ fn join(word: &str, first: &str, second: &str) -> Option<Op> {
             merge: preds(first)?,
             preds: preds(second)?,
         }),
+        b"INTERSECT" => Some(Op::Intersect),
         _ => None,
     }
 }
@@ -154,7 +156,7 @@ pub fn operator(query: &Query, text: &str) -> Option<Op> {
     let third = words.next().unwrap_or("");
     access(query, word, first, second, third)
         .or_else(|| change(query, word, first, second))
-        .or_else(|| join(word, first, second))
+        .or_else(|| over_two(word, first, second))
 }
 
 /// How many inputs the operator has in a text.
@@ -167,6 +169,6 @@ pub fn input_count(op: &Op) -> usize {
         | Op::Store { .. }
         | Op::Ship { .. }
         | Op::Probe { .. } => 1,
-        Op::JoinNl { .. } | Op::JoinMerge { .. } | Op::JoinHash { .. } => 2,
+        Op::JoinNl { .. } | Op::JoinMerge { .. } | Op::JoinHash { .. } | Op::Intersect => 2,
     }
 }

@@ -1,7 +1,7 @@
 // What is asked of a text over a query.
 ghost use Rattle.star_model.specs.WellFormed.{WellFormedQuery};
 
-use crate::{counts, derivations, glued, meanings, offers, parts, planned, vectors};
+use crate::{counts, derivations, glued, meanings, offers, parts, planned, vectors, weights};
 use star_model::costs::Costs;
 use star_model::query::Query;
 use std::alloc::{AllocError, Global};
@@ -20,6 +20,7 @@ pub fn asked(
         b"meaning" => meanings::told(alloc, query, text),
         b"card" => parts::estimated(alloc, query),
         b"part" => parts::told(alloc, query, text),
+        b"weights" => weights::told(alloc, query),
         b"vector" => vectors::told(alloc, query, costs, text),
         b"counts" => counts::told(alloc, query, costs, text),
         b"nodes" => planned::told(alloc, query, costs, text),

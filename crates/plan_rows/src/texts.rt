@@ -1,13 +1,16 @@
 // The query and the formulas of a table's files.
-ghost use Rattle.star_model.specs.WellFormed.{WellFormedCatalogue};
+ghost use Rattle.star_model.specs.WellFormed.{WellFormedCatalogue, WellFormedQuery};
 
 use crate::questions::asked;
 use catalogue::read_catalogue;
+use lolepop::weigh;
 use query_graph::read_query;
 use row_tables::Table;
 use star_model::catalogue::Catalogue;
 use star_model::costs::Costs;
+use star_model::query::Query;
 use star_model::rules::RuleFile;
+use star_model::selects::Selects;
 use star_syntax::read_rules;
 use std::alloc::{AllocError, Global};
 
@@ -25,15 +28,37 @@ fn costs_of(alloc: Global, rules: &RuleFile) -> Result<Costs, AllocError> {
     Ok(costs)
 }
 
-// The formulas of a rule file; none where the text spells none.
-fn costs_in(alloc: Global, rules: &str) -> Result<Costs, AllocError> {
+// The first selectivity of each class.
+fn selects_of(alloc: Global, rules: &RuleFile) -> Result<Selects, AllocError> {
+    let mut selects = Selects::new(alloc);
+    for each in rules.selects.as_slice() {
+        if selects.num(each.class).is_none() {
+            let num = each.num.copy(alloc)?;
+            let den = each.den.copy(alloc)?;
+            selects.put(each.class, num, den)?;
+        }
+    }
+    Ok(selects)
+}
+
+// The formulas and the selectivities of a rule file; none where the text spells none.
+fn formulas_in(alloc: Global, rules: &str) -> Result<(Costs, Selects), AllocError> {
     if rules.len() > LONGEST {
         return Err(AllocError);
     }
     match read_rules(alloc, rules.as_bytes()) {
-        Ok(rules) => costs_of(alloc, &rules),
-        Err(_) => Ok(Costs::new(alloc)),
+        Ok(rules) => Ok((costs_of(alloc, &rules)?, selects_of(alloc, &rules)?)),
+        Err(_) => Ok((Costs::new(alloc), Selects::new(alloc))),
     }
+}
+
+// The query, with these selectivities.
+fn weighed(mut query: Query, selects: &Selects) -> Query
+    requires { WellFormedQuery query }
+    ensures { WellFormedQuery result }
+{
+    weigh(&mut query, selects);
+    query
 }
 
 // What comes of a text over a catalogue and the text of a query.
@@ -49,9 +74,12 @@ fn answer_over(
     if query.len() > LONGEST {
         return Err(AllocError);
     }
-    let costs = costs_in(alloc, table.file(2, text))?;
+    let (costs, selects) = formulas_in(alloc, table.file(2, text))?;
     match read_query(alloc, catalogue, query.as_bytes()) {
-        Ok(query) => asked(alloc, table.kind.as_str(), &query, &costs, text),
+        Ok(query) => {
+            let query = weighed(query, &selects);
+            asked(alloc, table.kind.as_str(), &query, &costs, text)
+        }
         Err(fault) => format!(in alloc; "{fault:?}"),
     }
 }

@@ -1,4 +1,5 @@
 mod MemberWalks
+mod WeighingWalks
 mod OnlyMembers
 mod KeyWalks
 mod WidthSums

@@ -1,3 +1,4 @@
 pub mod UsedColumns
 pub mod GatheredPredicates
 pub mod Widths
+pub mod Weighing

@@ -1,14 +1,14 @@
 // The estimated number of rows.
 
-ghost use Rattle.std.specs.Prelude.{◌≡◌, ◌≤◌, length, ◌&&◌, nat_lt, max, option_copied};
+ghost use Rattle.std.specs.Prelude.{◌≡◌, ◌≤◌, length, ◌&&◌, nat_lt, option_copied};
 ghost use Rattle.star_model.specs.Sets.{has};
-ghost use Rattle.star_model.specs.Cardinality.{card, table_of, rows_of, distinct_of, equal_in, one_in, ends_at, preds_at};
+ghost use Rattle.star_model.specs.Cardinality.{card, table_of, rows_of, distinct_of, ends_at, preds_at};
 ghost use Rattle.star_model.specs.WellFormed.{WellFormedQuery};
 
 use star_model::catalogue::TableDef;
 use star_model::columns::Col;
 use star_model::num::{Num, cap_div, cap_mul};
-use star_model::query::{Cmp, Operand, Pred, Query};
+use star_model::query::{Operand, Pred, Query};
 use star_model::sets::{PredSet, QuantSet};
 
 /// The estimated number of choices of one row for each quantifier of the set that make these predicates true.
@@ -40,7 +40,7 @@ fn after_preds(query: &Query, tables: QuantSet, preds: PredSet, quant: u8, read:
     let mut rows = read;
     for (n, pred) in query.preds.as_slice().iter().enumerate() {
         if preds.has(n as u8) && ends_at(tables, quant, pred) {
-            rows = cap_div(rows, one_in(query, pred.left, pred.cmp, &pred.right));
+            rows = cap_div(cap_mul(rows, pred.num), pred.den);
         }
     }
     rows
@@ -70,34 +70,15 @@ fn is_later(tables: QuantSet, other: u8, quant: u8) -> bool
     tables.has(other) && quant < other
 }
 
-// The part of the rows that make the comparison true: one in so many.
-fn one_in(query: &Query, left: Col, cmp: Cmp, right: &Operand) -> Num
-    ensures { result ≡ one_in query.now left cmp right.now }
-{
-    match cmp {
-        Cmp::Eq => equal_in(query, left, right),
-        Cmp::Ne => Num::cut(1),
-        Cmp::Lt | Cmp::Le | Cmp::Gt | Cmp::Ge => Num::cut(3),
-    }
-}
-
-fn equal_in(query: &Query, left: Col, right: &Operand) -> Num
-    ensures { result ≡ equal_in query.now left right.now }
-{
-    let distinct = distinct_of(query, left);
-    match right {
-        Operand::Column(right) => Num::cut(1).max(distinct.max(distinct_of(query, *right))),
-        Operand::Constant(_) => Num::cut(1).max(distinct),
-    }
-}
-
-fn rows_of(query: &Query, quant: u8) -> Num
+/// The rows of the quantifier's table, 0 where there is none.
+pub fn rows_of(query: &Query, quant: u8) -> Num
     ensures { result ≡ rows_of query.now quant }
 {
     table_of(query, quant).map_or(Num::cut(0), |table| table.rows)
 }
 
-fn distinct_of(query: &Query, column: Col) -> Num
+/// The distinct values of the column, 0 where there is none.
+pub fn distinct_of(query: &Query, column: Col) -> Num
     ensures { result ≡ distinct_of query.now column }
 {
     table_of(query, column.quant.0)

@@ -7,6 +7,7 @@ mod indexes;
 mod join_keys;
 mod sets;
 pub mod theorems;
+mod weighing;
 mod widths;
 
 pub use cardinality::{card, table_of};
@@ -14,4 +15,5 @@ pub use homes::{home, only_member, site_asked};
 pub use indexes::{index_columns, is_index_of, is_index_on};
 pub use join_keys::keys;
 pub use sets::{crossing, eligible, is_equality, lies_in, touches, used};
+pub use weighing::weigh;
 pub use widths::width;

@@ -20,26 +20,32 @@ use Rattle.star_model.specs.declared.query.Pred.{Pred}
 use Rattle.star_model.specs.declared.query.Operand as model
 use Rattle.star_model.specs.declared.query.Operand.TheVariants as operand
 use Rattle.star_model.specs.Predicates as predicates
+use Rattle.star_model.specs.Selectivity.{weighed_pred, weighed}
 use Rattle.star_model.specs.Vectors.{same_numbers}
-use Rattle.star_model.specs.WellFormed.{differ, WellFormedCatalogue, WellFormedQuery, type_of, type_of_operand, type_of_value, is_there, is_operand, same_type}
+use Rattle.star_model.specs.WellFormed.{differ, WellFormedCatalogue, WellFormedQuery, type_of, type_of_operand, type_of_value, is_there, is_operand, is_word, is_name, same_type}
 use Rattle.spelling.specs.Lexemes.{Lexeme, Word, Number, Text, Symbol, comma, joined_by}
 use Rattle.star_model.specs.Every.{Every, HasItem}
 use Rattle.spelling.specs.Firsts.{NoneFrom, NoneHas}
 use Rattle.spelling.specs.Limits.{HasLongWord}
 use Rattle.star_model.specs.Names.{place_of}
 use Rattle.spelling.specs.Names.{all_of}
-use Rattle.query_graph.specs.Queries.{ColumnName, Item, Side, OfColumn, OfConstant, Whole, Negative, Quoted, Constant, Comparison, QueryStatement, quantifier_name, quantifier_of, column_of, columns_of, operand_of, predicate_of, site_of, value_of, query_of, own_name, item_lexemes, columns_lexemes, where_lexemes, order_lexemes, at_lexemes, query_lexemes, IsQueryStatement}
-use Rattle.query_graph.specs.Faults.{quantifier_names, DefinesTwice, Beyond, IsGreat, IsGreatSide, HasGreatConstant, HasTwoTypes}
-use Rattle.query_graph.proofs.Found.{there, then_some, some_same, place_within, all_length, all_have, all_with}
+use Rattle.query_graph.specs.Queries.{ColumnName, Item, Side, OfColumn, OfConstant, Whole, Negative, Quoted, Constant, Comparison, QueryStatement, quantifier_name, quantifier_of, column_of, columns_of, operand_of, predicate_of, site_of, value_of, query_of, own_name, item_lexemes, columns_lexemes, where_lexemes, order_lexemes, at_lexemes, query_lexemes}
+use Rattle.query_graph.specs.Faults.{quantifier_names, DefinesTwice, Says, Beyond, IsGreat, IsGreatSide, HasGreatConstant, HasTwoTypes}
+use Rattle.query_graph.proofs.Found.{there, then_some, some_same, place_within, all_length, all_have, all_with, mapped_some, all_mapped}
 use Rattle.query_graph.proofs.Meaning.{table_names, quantifier_parts, names_of_quantifiers}
+use Rattle.query_graph.proofs.NameWords.{quantifier_words}
 
 -- ---- the parts of a query
+
+-- the predicate that a comparison means, with its selectivity
+abbrev pub weighed_of : Query → Comparison → Option Pred
+weighed_of x p = option_map (weighed_pred [] x) (predicate_of x.catalogue x.quants p)
 
 pub record Parts (q : QueryStatement) (x : Query) : Type 0 where
   pub catalogue : WellFormedCatalogue x.catalogue
   pub quants : all_of (map (quantifier_of x.catalogue) q.items) ≡ Some x.quants
   pub select : columns_of x.catalogue x.quants q.select ≡ Some x.select
-  pub preds : all_of (map (predicate_of x.catalogue x.quants) q.comparisons) ≡ Some x.preds
+  pub preds : all_of (map (weighed_of x) q.comparisons) ≡ Some x.preds
   pub order : columns_of x.catalogue x.quants q.order ≡ Some x.order
   pub site : site_of x.catalogue q.site ≡ Some x.site
 
@@ -47,15 +53,15 @@ moved : (q : QueryStatement) (made x : Query) → made ≡ x → Parts q made �
 moved q made x same parts = subst (λ (y : Query). Parts q y) same parts
 
 pub parts_of : (c : Catalogue) (q : QueryStatement) (x : Query) → WellFormedCatalogue c → query_of c q ≡ Some x → Parts q x
-unfolding query_of
+unfolding query_of weighed
 parts_of c q x formed is =
     let quants = then_some (all_of (map (quantifier_of c) q.items)) _ x is in
     let select = then_some (columns_of c quants.0 q.select) _ x quants.2 in
     let preds = then_some (all_of (map (predicate_of c quants.0) q.comparisons)) _ x select.2 in
     let order = then_some (columns_of c quants.0 q.order) _ x preds.2 in
     let at = then_some (site_of c q.site) _ x order.2 in
-    let made : Query = record { catalogue = c; quants = quants.0; select = select.0; preds = preds.0; order = order.0; site = at.0 } in
-    let parts : Parts q made = record { catalogue = formed; quants = quants.1; select = select.1; preds = preds.1; order = order.1; site = at.1 } in
+    let made : Query = weighed [] (record { catalogue = c; quants = quants.0; select = select.0; preds = preds.0; order = order.0; site = at.0 }) in
+    let parts : Parts q made = record { catalogue = formed; quants = quants.1; select = select.1; preds = all_mapped (predicate_of c quants.0) (weighed_pred [] made) q.comparisons preds.0 preds.1; order = order.1; site = at.1 } in
     moved q made x (some_same made x at.2) parts
 
 -- ---- columns
@@ -98,15 +104,18 @@ operand_is_there x (OfColumn n) o is = by (column_of x.catalogue x.quants n) ref
 operand_is_there x (OfConstant k) o is =
     subst (λ (y : model.Operand). list_all (is_there x) (predicates.columns_of_operand y) ≡ true) (some_same (operand.Constant (value_of k)) o is) refl
 
-pub predicate_parts : (x : Query) (p : Comparison) (made : Pred) → predicate_of x.catalogue x.quants p ≡ Some made
+pub predicate_parts : (x : Query) (p : Comparison) (made : Pred) → weighed_of x p ≡ Some made
     → (column_of x.catalogue x.quants p.left ≡ Some made.left) × (operand_of x.catalogue x.quants p.right ≡ Some made.right)
 predicate_parts x p made is =
-    let left = then_some (column_of x.catalogue x.quants p.left) _ made is in
-    let right = then_some (operand_of x.catalogue x.quants p.right) _ made left.2 in
-    let same = some_same (record { left = left.0; cmp = p.cmp; right = right.0 }) made right.2 in
-    (left.1 ∙ ap (λ (y : Pred). Some y.left) same, right.1 ∙ ap (λ (y : Pred). Some y.right) same)
+    let plain = mapped_some (weighed_pred [] x) (predicate_of x.catalogue x.quants p) made is in
+    let left = then_some (column_of x.catalogue x.quants p.left) _ plain.0 plain.1 in
+    let right = then_some (operand_of x.catalogue x.quants p.right) _ plain.0 left.2 in
+    let same = some_same (record { left = left.0; cmp = p.cmp; right = right.0; num = 1; den = 1 }) plain.0 right.2 in (
+      left.1 ∙ ap (λ (y : Pred). Some y.left) same ∙ ap (λ (y : Pred). Some y.left) plain.2,
+      right.1 ∙ ap (λ (y : Pred). Some y.right) same ∙ ap (λ (y : Pred). Some y.right) plain.2,
+    )
 
-predicate_is_there : (x : Query) (p : Comparison) (made : Pred) → predicate_of x.catalogue x.quants p ≡ Some made → list_all (is_there x) (predicates.columns_of made) ≡ true
+predicate_is_there : (x : Query) (p : Comparison) (made : Pred) → weighed_of x p ≡ Some made → list_all (is_there x) (predicates.columns_of made) ≡ true
 predicate_is_there x p made is =
     let parts = predicate_parts x p made is in
     and_from (is_there x made.left) (list_all (is_there x) (predicates.columns_of_operand made.right)) (column_is_there x p.left made.left parts.0) (operand_is_there x p.right made.right parts.1)
@@ -217,30 +226,37 @@ table_is_there x i d _ is =
     let below : d.table < length x.catalogue.tables = subst (λ n. d.table < n) (length-map x.catalogue.tables (λ t. t.name)) (place_within (table_names x.catalogue) i.table d.table (quantifier_parts x.catalogue i d is).0).0 in
     lt-ltb d.table (length x.catalogue.tables) below
 
-pub formed_query : (c : Catalogue) (q : QueryStatement) (x : Query) → WellFormedCatalogue c → IsQueryStatement q → (DefinesTwice q → ⊥) → ((what : LimitKind) → Beyond q what → ⊥)
+names : (items : List Item) → Every (λ i. length (quantifier_name i) ≤ 64) items → Every (λ i. is_word (quantifier_name i) ≡ true) items → Every (λ i. is_name (quantifier_name i) ≡ true) items
+names [] short words = tt
+names (i ∷ items) short words = (
+  and_from (is_word (quantifier_name i)) (nat_le (length (quantifier_name i)) 64) words.0 (le-leb (length (quantifier_name i)) 64 short.0),
+  names items short.1 words.1,
+)
+
+pub formed_query : (c : Catalogue) (text : List ℕ) (q : QueryStatement) (x : Query) → WellFormedCatalogue c → Says text q → (DefinesTwice q → ⊥) → ((what : LimitKind) → Beyond q what → ⊥)
     → query_of c q ≡ Some x → NoneHas (λ _ p. HasTwoTypes x p) x.preds → WellFormedQuery x
-formed_query c q x formed stands once keeps is one =
+formed_query c text q x formed says once keeps is one =
     let parts = parts_of c q x formed is in
     let quants = all_length (quantifier_of x.catalogue) q.items x.quants parts.quants in
     let select = all_length (column_of x.catalogue x.quants) q.select x.select parts.select in
-    let preds = all_length (predicate_of x.catalogue x.quants) q.comparisons x.preds parts.preds in
+    let preds = all_length (weighed_of x) q.comparisons x.preds parts.preds in
     let order = all_length (column_of x.catalogue x.quants) q.order x.order parts.order in
-    let columns = all_have (predicate_of x.catalogue x.quants) (λ p. Unit {0}) (λ p. list_all (is_there x) (predicates.columns_of p)) (λ p made _ made_is. predicate_is_there x p made made_is) q.comparisons x.preds (always q.comparisons) parts.preds in
+    let columns = all_have (weighed_of x) (λ p. Unit {0}) (λ p. list_all (is_there x) (predicates.columns_of p)) (λ p made _ made_is. predicate_is_there x p made made_is) q.comparisons x.preds (always q.comparisons) parts.preds in
     record {
       catalogue = parts.catalogue;
-      some_quantifiers = (some_items q.items x.quants stands.some_items quants, subst (λ n. n ≤ 8) (sym quants) (within 8 (length q.items) (keeps limit.Quantifiers)));
-      some_columns = (some_items q.select x.select stands.some_columns select, subst (λ n. n ≤ 64) (sym select) (within 64 (length q.select) (keeps limit.Select)));
+      some_quantifiers = (some_items q.items x.quants says.stands.some_items quants, subst (λ n. n ≤ 12) (sym quants) (within 12 (length q.items) (keeps limit.Quantifiers)));
+      some_columns = (some_items q.select x.select says.stands.some_columns select, subst (λ n. n ≤ 64) (sym select) (within 64 (length q.select) (keeps limit.Select)));
       few_predicates = subst (λ n. n ≤ 16) (sym preds) (within 16 (length q.comparisons) (keeps limit.Predicates));
       few_in_order = subst (λ n. n ≤ 16) (sym order) (within 16 (length q.order) (keeps limit.OrderBy));
       tables = all_have (quantifier_of x.catalogue) (λ i. Unit {0}) (λ d. nat_lt d.table (length x.catalogue.tables)) (table_is_there x) q.items x.quants (always q.items) parts.quants;
-      short_names = all_have (quantifier_of x.catalogue) (λ i. length (quantifier_name i) ≤ 64) (λ d. nat_le (length d.name) 64)
-          (λ i d short d_is. ap (λ n. nat_le (length n) 64) (quantifier_parts x.catalogue i d d_is).1 ∙ le-leb (length (quantifier_name i)) 64 short)
-          q.items x.quants (short_names q.items (λ long. keeps limit.Name (items_in_query q long))) parts.quants;
+      names = all_have (quantifier_of x.catalogue) (λ i. is_name (quantifier_name i) ≡ true) (λ d. is_name d.name)
+          (λ i d named d_is. ap is_name (quantifier_parts x.catalogue i d d_is).1 ∙ named)
+          q.items x.quants (names q.items (short_names q.items (λ long. keeps limit.Name (items_in_query q long))) (quantifier_words text q says)) parts.quants;
       quantifiers_differ = ap (differ same_numbers) (names_of_quantifiers x.catalogue q.items x.quants parts.quants) ∙ true_from_ne_false (differ same_numbers (quantifier_names q.items)) once;
       select = columns_are_there x q.select x.select parts.select;
       order = columns_are_there x q.order x.order parts.order;
       columns = columns;
-      constants = all_have (predicate_of x.catalogue x.quants) (λ p. IsGreatSide p.right → ⊥) (λ p. is_operand p.right)
+      constants = all_have (weighed_of x) (λ p. IsGreatSide p.right → ⊥) (λ p. is_operand p.right)
           (λ p made small made_is. small_operand x p.right made.right small (predicate_parts x p made made_is).1)
           q.comparisons x.preds (none_great q.comparisons (keeps limit.Number)) parts.preds;
       one_type = all_with (λ p. list_all (is_there x) (predicates.columns_of p)) (λ p. HasTwoTypes x p → ⊥) (λ p. same_type (type_of x p.left) (type_of_operand x p.right)) (has_one_type x)
@@ -250,15 +266,15 @@ formed_query c q x formed stands once keeps is one =
 
 pub few_predicates : (c : Catalogue) (q : QueryStatement) (x : Query) → WellFormedCatalogue c → ((what : LimitKind) → Beyond q what → ⊥) → query_of c q ≡ Some x → length x.preds ≤ 16
 few_predicates c q x formed keeps is =
-    let preds = all_length (predicate_of x.catalogue x.quants) q.comparisons x.preds (parts_of c q x formed is).preds in
+    let preds = all_length (weighed_of x) q.comparisons x.preds (parts_of c q x formed is).preds in
     subst (λ n. n ≤ 16) (sym preds) (within 16 (length q.comparisons) (keeps limit.Predicates))
 
 pub catalogue_is : (c : Catalogue) (q : QueryStatement) (x : Query) → query_of c q ≡ Some x → x.catalogue ≡ c
-unfolding query_of
+unfolding query_of weighed
 catalogue_is c q x is =
     let quants = then_some (all_of (map (quantifier_of c) q.items)) _ x is in
     let select = then_some (columns_of c quants.0 q.select) _ x quants.2 in
     let preds = then_some (all_of (map (predicate_of c quants.0) q.comparisons)) _ x select.2 in
     let order = then_some (columns_of c quants.0 q.order) _ x preds.2 in
     let at = then_some (site_of c q.site) _ x order.2 in
-    sym (ap (λ (y : Query). y.catalogue) (some_same (record { catalogue = c; quants = quants.0; select = select.0; preds = preds.0; order = order.0; site = at.0 }) x at.2))
+    sym (ap (λ (y : Query). y.catalogue) (some_same (weighed [] (record { catalogue = c; quants = quants.0; select = select.0; preds = preds.0; order = order.0; site = at.0 })) x at.2))

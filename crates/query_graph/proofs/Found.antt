@@ -119,6 +119,19 @@ pub all_length : {A B : Type 0} (f : A → Option B) (xs : List A) (ys : List B)
 all_length f [] ys is = let same : [] ≡ ys = cc in ap length (sym same)
 all_length f (x ∷ xs) ys is = let parts = all_parts f x xs ys is in ap length parts.4 ∙ ap suc (all_length f xs parts.1 parts.3)
 
+pub mapped_some : {A B : Type 0} (g : A → B) (o : Option A) (y : B) → option_map g o ≡ Some y → (x : A) × (o ≡ Some x) × (g x ≡ y)
+mapped_some g None y is = absurd cc
+mapped_some g (Some x) y is = (x, refl, some_same (g x) y is)
+
+-- each result changed in one way
+pub all_mapped : {A B C : Type 0} (f : A → Option B) (g : B → C) (xs : List A) (ys : List B) → all_of (map f xs) ≡ Some ys
+    → all_of (map (λ x. option_map g (f x)) xs) ≡ Some (map g ys)
+all_mapped f g [] ys is = ap (λ l. Some (map g l)) (some_same [] ys is)
+all_mapped f g (x ∷ xs) ys is =
+    let parts = all_parts f x xs ys is in
+    all_cons (λ z. option_map g (f z)) x xs (g parts.0) (map g parts.1) (ap (option_map g) parts.2) (all_mapped f g xs parts.1 parts.3)
+    ∙ ap (λ l. Some (map g l)) (sym parts.4)
+
 -- what is at a place
 pub all_get : {A B : Type 0} (f : A → Option B) (xs : List A) (ys : List B) (n : ℕ) (x : A) → all_of (map f xs) ≡ Some ys → slice_get xs n ≡ Some x
     → (y : B) × (f x ≡ Some y) × (slice_get ys n ≡ Some y)

@@ -28,7 +28,7 @@ use Rattle.spelling.specs.Firsts.{NoneFrom, NoneHas}
 use Rattle.spelling.specs.Limits.{HasLongWord}
 use Rattle.star_model.specs.Names.{place_of, is_among}
 use Rattle.spelling.specs.Names.{all_of}
-use Rattle.query_graph.specs.Queries.{ColumnName, Item, Side, OfColumn, OfConstant, Whole, Negative, Quoted, Constant, Comparison, QueryStatement, quantifier_name, quantifier_of, column_of, columns_of, operand_of, predicate_of, site_of, value_of, own_name, column_lexemes, item_lexemes, cmp_lexeme, side_lexemes, comparison_lexemes, columns_lexemes, where_lexemes, order_lexemes, at_lexemes, query_lexemes}
+use Rattle.query_graph.specs.Queries.{ColumnName, Item, Side, OfColumn, OfConstant, Whole, Negative, Quoted, Constant, Comparison, QueryStatement, quantifier_name, quantifier_of, column_of, columns_of, operand_of, site_of, value_of, own_name, column_lexemes, item_lexemes, cmp_lexeme, side_lexemes, comparison_lexemes, columns_lexemes, where_lexemes, order_lexemes, at_lexemes, query_lexemes}
 use Rattle.star_model.specs.declared.query.Cmp.{Cmp}
 use Rattle.star_model.specs.declared.query.Cmp.TheVariants as cmp
 use Rattle.query_graph.specs.Faults.{column_names, quantifier_names, is_table, side_columns, comparison_columns, columns_named, has_column, NamesUnknown, DefinesTwice, Beyond, IsGreatSide, HasGreatConstant, HasTwoTypes}
@@ -37,7 +37,7 @@ use Rattle.query_graph.proofs.Lists.{is_some-place_of, list_all-flat_map}
 use Rattle.query_graph.proofs.Formed.{formed_table}
 use Rattle.query_graph.proofs.Found.{then_some, some_same, all_at, get_map, place_within, all_parts, all_length}
 use Rattle.query_graph.proofs.Meaning.{table_names, quantifier_parts, names_of_quantifiers}
-use Rattle.query_graph.proofs.FormedQuery.{Parts, predicate_parts}
+use Rattle.query_graph.proofs.FormedQuery.{Parts, weighed_of, predicate_parts}
 use Rattle.star_model.proofs.Laws.{same_self}
 
 -- ---- lists of options, read backwards
@@ -127,7 +127,7 @@ module _ (q : QueryStatement) (x : Query) (parts : Parts q x) where
       by None e same = absurd cc
       by (Some col) e same = and_from (faults.is_column x.catalogue q.items n) true (column_known n col e) refl
 
-  comparison_known : (p : Comparison) (made : Pred) → predicate_of x.catalogue x.quants p ≡ Some made → list_all (faults.is_column x.catalogue q.items) (comparison_columns p) ≡ true
+  comparison_known : (p : Comparison) (made : Pred) → weighed_of x p ≡ Some made → list_all (faults.is_column x.catalogue q.items) (comparison_columns p) ≡ true
   comparison_known p made is =
       let own = predicate_parts x p made is in
       and_from (faults.is_column x.catalogue q.items p.left) (list_all (faults.is_column x.catalogue q.items) (side_columns p.right)) (column_known p.left made.left own.0) (side_known p.right made.right own.1)
@@ -136,7 +136,7 @@ module _ (q : QueryStatement) (x : Query) (parts : Parts q x) where
   columns_known =
       let test = faults.is_column x.catalogue q.items in
       let select = all_from (column_of x.catalogue x.quants) (faults.is_column x.catalogue q.items) column_known q.select x.select parts.select in
-      let comparisons = all_from (predicate_of x.catalogue x.quants) (λ p. list_all (faults.is_column x.catalogue q.items) (comparison_columns p)) comparison_known q.comparisons x.preds parts.preds in
+      let comparisons = all_from (weighed_of x) (λ p. list_all (faults.is_column x.catalogue q.items) (comparison_columns p)) comparison_known q.comparisons x.preds parts.preds in
       let order = all_from (column_of x.catalogue x.quants) (faults.is_column x.catalogue q.items) column_known q.order x.order parts.order in
       list_all-append test q.select (flat_map comparison_columns q.comparisons ++ q.order)
       ∙ and_from (list_all test q.select) (list_all test (flat_map comparison_columns q.comparisons ++ q.order)) select
@@ -172,10 +172,10 @@ great_side : (x : Query) (s : Side) (o : model.Operand) → operand_of x.catalog
 great_side x (OfColumn n) o is great fits = great
 great_side x (OfConstant k) o is great fits = great_is_no_operand k great (ap is_operand (some_same (operand.Constant (value_of k)) o is) ∙ fits)
 
-none_great : (x : Query) (ps : List Comparison) (made : List Pred) → all_of (map (predicate_of x.catalogue x.quants) ps) ≡ Some made → list_all (λ p. is_operand p.right) made ≡ true → HasGreatConstant ps → ⊥
+none_great : (x : Query) (ps : List Comparison) (made : List Pred) → all_of (map (weighed_of x) ps) ≡ Some made → list_all (λ p. is_operand p.right) made ≡ true → HasGreatConstant ps → ⊥
 none_great x [] made is fits great = great
 none_great x (p ∷ ps) made is fits great =
-    let parts = all_parts (predicate_of x.catalogue x.quants) p ps made is in
+    let parts = all_parts (weighed_of x) p ps made is in
     let both = and_parts (is_operand parts.0.right) (list_all (λ r. is_operand r.right) parts.1) (sym (ap (list_all (λ (r : Pred). is_operand r.right)) parts.4) ∙ fits) in
     elim great [
       | inl here ↦ great_side x p.right parts.0.right (predicate_parts x p parts.0 parts.2).1 here both.0
@@ -242,7 +242,7 @@ own_is_short table (Some name) short = short_word name [] short (λ long. long)
 
 module _ (q : QueryStatement) (x : Query) (parts : Parts q x) (formed : WellFormedQuery x) where
   quantifier_is_short : (n : ℕ) (d : QuantDef) → slice_get x.quants n ≡ Some d → length d.name ≤ 64
-  quantifier_is_short n d is = leb-true (length d.name) 64 (all_at (λ (e : QuantDef). nat_le (length e.name) 64) x.quants n d formed.short_names is)
+  quantifier_is_short n d is = name_is_short d.name (all_at (λ (e : QuantDef). is_name e.name) x.quants n d formed.names is)
 
   column_is_short : (n : ColumnName) (col : Col) → column_of x.catalogue x.quants n ≡ Some col → IsShort (column_lexemes n)
   column_is_short n col is =
@@ -266,32 +266,32 @@ module _ (q : QueryStatement) (x : Query) (parts : Parts q x) (formed : WellForm
       by None e same = absurd cc
       by (Some col) e same = column_is_short n col e
 
-  comparison_is_short : (p : Comparison) (made : Pred) → predicate_of x.catalogue x.quants p ≡ Some made → IsShort (comparison_lexemes p)
+  comparison_is_short : (p : Comparison) (made : Pred) → weighed_of x p ≡ Some made → IsShort (comparison_lexemes p)
   comparison_is_short p made is =
       let own = predicate_parts x p made is in
       short_append (column_lexemes p.left) (cmp_lexeme p.cmp ∷ side_lexemes p.right) (column_is_short p.left made.left own.0)
       (cmp_is_short p.cmp (side_lexemes p.right) (side_is_short p.right made.right own.1))
 
-  item_is_short : (i : Item) (d : QuantDef) → quantifier_of x.catalogue i ≡ Some d → nat_le (length d.name) 64 ≡ true → IsShort (item_lexemes i)
-  item_is_short i d is short =
+  item_is_short : (i : Item) (d : QuantDef) → quantifier_of x.catalogue i ≡ Some d → is_name d.name ≡ true → IsShort (item_lexemes i)
+  item_is_short i d is called =
       let own = quantifier_parts x.catalogue i d is in
       let at = (place_within (table_names x.catalogue) i.table d.table own.0).1 in
       let t = get_from (λ (e : TableDef). e.name) x.catalogue.tables d.table at.0 at.1 in
       let named = name_is_short t.0.name (formed_table x.catalogue d.table t.0 formed.catalogue t.1).name in
       let table : length i.table ≤ 64 = subst (λ (l : List ℕ). length l ≤ 64) (sym (at.2 ∙ sym t.2)) named in
-      let name : length (quantifier_name i) ≤ 64 = subst (λ (l : List ℕ). length l ≤ 64) own.1 (leb-true (length d.name) 64 short) in
+      let name : length (quantifier_name i) ≤ 64 = subst (λ (l : List ℕ). length l ≤ 64) own.1 (name_is_short d.name called) in
       short_word i.table (own_name i.name) table (own_is_short i.table i.name name)
 
   columns_are_short : (ns : List ColumnName) (cols : List Col) → columns_of x.catalogue x.quants ns ≡ Some cols → IsShort (columns_lexemes ns)
   columns_are_short ns cols is =
       short_joined comma column_lexemes ns (λ long. long) (every_from (column_of x.catalogue x.quants) (λ n. IsShort (column_lexemes n)) column_is_short ns cols is)
 
-  where_is_short : (ps : List Comparison) (made : List Pred) → all_of (map (predicate_of x.catalogue x.quants) ps) ≡ Some made → IsShort (where_lexemes ps)
+  where_is_short : (ps : List Comparison) (made : List Pred) → all_of (map (weighed_of x) ps) ≡ Some made → IsShort (where_lexemes ps)
   where_is_short [] made is = λ long. long
   where_is_short (p ∷ ps) made is =
       short_word (codes "where") (joined_by (Word (codes "and")) (map comparison_lexemes (p ∷ ps))) (omega arith)
       (short_joined (Word (codes "and")) comparison_lexemes (p ∷ ps) (short_word (codes "and") [] (omega arith) (λ long. long))
-      (every_from (predicate_of x.catalogue x.quants) (λ r. IsShort (comparison_lexemes r)) comparison_is_short (p ∷ ps) made is))
+      (every_from (weighed_of x) (λ r. IsShort (comparison_lexemes r)) comparison_is_short (p ∷ ps) made is))
 
   order_is_short : (ns : List ColumnName) (cols : List Col) → columns_of x.catalogue x.quants ns ≡ Some cols → IsShort (order_lexemes ns)
   order_is_short [] cols is = λ long. long
@@ -315,7 +315,7 @@ module _ (q : QueryStatement) (x : Query) (parts : Parts q x) (formed : WellForm
       (short_word (codes "from") (items ++ (wheres ++ (order ++ at))) (omega arith)
       (short_append items (wheres ++ (order ++ at))
       (short_joined comma item_lexemes q.items (λ long. long)
-      (every_with (quantifier_of x.catalogue) (λ d. nat_le (length d.name) 64) (λ i. IsShort (item_lexemes i)) item_is_short q.items x.quants parts.quants formed.short_names))
+      (every_with (quantifier_of x.catalogue) (λ d. is_name d.name) (λ i. IsShort (item_lexemes i)) item_is_short q.items x.quants parts.quants formed.names))
       (short_append wheres (order ++ at) (where_is_short q.comparisons x.preds parts.preds)
       (short_append order at (order_is_short q.order x.order parts.order) (at_is_short q.site x.site parts.site))))))
     where
@@ -340,7 +340,7 @@ module _ (q : QueryStatement) (x : Query) (parts : Parts q x) (formed : WellForm
   keeps_limits limit.Number beyond = none_great x q.comparisons x.preds parts.preds formed.constants beyond
   keeps_limits limit.Name beyond = query_is_short beyond
   keeps_limits limit.Quantifiers beyond = omega (arith, beyond, all_length (quantifier_of x.catalogue) q.items x.quants parts.quants, formed.some_quantifiers.1)
-  keeps_limits limit.Predicates beyond = omega (arith, beyond, all_length (predicate_of x.catalogue x.quants) q.comparisons x.preds parts.preds, formed.few_predicates)
+  keeps_limits limit.Predicates beyond = omega (arith, beyond, all_length (weighed_of x) q.comparisons x.preds parts.preds, formed.few_predicates)
   keeps_limits limit.Select beyond = omega (arith, beyond, all_length (column_of x.catalogue x.quants) q.select x.select parts.select, formed.some_columns.1)
   keeps_limits limit.OrderBy beyond = omega (arith, beyond, all_length (column_of x.catalogue x.quants) q.order x.order parts.order, formed.few_in_order)
   keeps_limits _ beyond = beyond

@@ -16,6 +16,7 @@ pub mod StatementLaws
 pub mod Laws
 mod Found
 mod Meaning
+mod NameWords
 mod FormedQuery
 mod FaultLaws
 mod Judging

@@ -254,21 +254,21 @@ module _ (q : QueryStatement) (no_number : Beyond q limit.Number → ⊥) (no_na
       (none_below q 15 (λ l. no_number) (λ l. no_name) (λ l. quantifiers) (λ l. absurd (omega arith)) (λ l. absurd (omega arith)) (λ l. absurd (omega arith)))
   predicate_limit false e quantifiers = select_limit (nat_lt 64 (length q.select)) refl quantifiers (not_above 16 (length q.comparisons) e)
 
-  quantifier_limit : (b : Bool) → nat_lt 8 (length q.items) ≡ b
+  quantifier_limit : (b : Bool) → nat_lt 12 (length q.items) ≡ b
       → Finds q (cond b (Some limit.Quantifiers) (cond (nat_lt 16 (length q.comparisons)) (Some limit.Predicates) (cond (nat_lt 64 (length q.select)) (Some limit.Select) (cond (nat_lt 16 (length q.order)) (Some limit.OrderBy) None))))
   quantifier_limit true e =
-      first_beyond q limit.Quantifiers (ltb-true 8 (length q.items) e)
+      first_beyond q limit.Quantifiers (ltb-true 12 (length q.items) e)
       (none_below q 14 (λ l. no_number) (λ l. no_name) (λ l. absurd (omega arith)) (λ l. absurd (omega arith)) (λ l. absurd (omega arith)) (λ l. absurd (omega arith)))
-  quantifier_limit false e = predicate_limit (nat_lt 16 (length q.comparisons)) refl (not_above 8 (length q.items) e)
+  quantifier_limit false e = predicate_limit (nat_lt 16 (length q.comparisons)) refl (not_above 12 (length q.items) e)
 
 counts : (q : QueryWords) → (Beyond (said q) limit.Number → ⊥) → (Beyond (said q) limit.Name → ⊥) → Finds (said q) (first_count q)
 counts q no_number no_name =
-    subst (λ found. Finds (said q) found) lengths (quantifier_limit (said q) no_number no_name (nat_lt 8 (length (said q).items)) refl)
+    subst (λ found. Finds (said q) found) lengths (quantifier_limit (said q) no_number no_name (nat_lt 12 (length (said q).items)) refl)
   where
-    lengths : cond (nat_lt 8 (length (said q).items)) (Some limit.Quantifiers) (cond (nat_lt 16 (length (said q).comparisons)) (Some limit.Predicates) (cond (nat_lt 64 (length (said q).select)) (Some limit.Select) (cond (nat_lt 16 (length (said q).order)) (Some limit.OrderBy) None)))
+    lengths : cond (nat_lt 12 (length (said q).items)) (Some limit.Quantifiers) (cond (nat_lt 16 (length (said q).comparisons)) (Some limit.Predicates) (cond (nat_lt 64 (length (said q).select)) (Some limit.Select) (cond (nat_lt 16 (length (said q).order)) (Some limit.OrderBy) None)))
         ≡ first_count q
     lengths = λ i.
-        cond (nat_lt 8 (length-map q.items said_item i)) (Some limit.Quantifiers)
+        cond (nat_lt 12 (length-map q.items said_item i)) (Some limit.Quantifiers)
         (cond (nat_lt 16 (length-map q.comparisons said_comparison i)) (Some limit.Predicates)
         (cond (nat_lt 64 (length-map q.select said_column i)) (Some limit.Select)
         (cond (nat_lt 16 (length-map q.order said_column i)) (Some limit.OrderBy) None)))
@@ -297,7 +297,7 @@ at_most limit n m same keeps = elim (cases_lt limit n) [ inl beyond ↦ absurd (
 
 pub fits : (q : QueryWords) → ((what : LimitKind) → Beyond (said q) what → ⊥) → Fits q
 fits q keeps = record {
-  quantifiers = at_most 8 (length q.items) (length (said q).items) (length-map q.items said_item) (keeps limit.Quantifiers);
+  quantifiers = at_most 12 (length q.items) (length (said q).items) (length-map q.items said_item) (keeps limit.Quantifiers);
   predicates = at_most 16 (length q.comparisons) (length (said q).comparisons) (length-map q.comparisons said_comparison) (keeps limit.Predicates);
   order = at_most 16 (length q.order) (length (said q).order) (length-map q.order said_column) (keeps limit.OrderBy);
   constants = keeps limit.Number;

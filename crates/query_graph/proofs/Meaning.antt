@@ -13,6 +13,7 @@ use Rattle.star_model.specs.declared.query.QuantDef.{QuantDef}
 use Rattle.star_model.specs.declared.query.Pred.{Pred}
 use Rattle.star_model.specs.declared.query.Operand as model
 use Rattle.star_model.specs.declared.query.Operand.TheVariants as operand
+use Rattle.star_model.specs.Selectivity.{weighed}
 use Rattle.star_model.specs.Vectors.{same_numbers}
 use Rattle.star_model.specs.WellFormed.{differ, WellFormedCatalogue}
 use Rattle.star_model.specs.Names.{place_of, is_among}
@@ -98,7 +99,7 @@ site_there c (Some name) known =
 query_is : (c : Catalogue) (q : QueryStatement) (quants : List QuantDef) (select : List Col) (preds : List Pred) (order : List Col) (s : Option site.Site)
     → all_of (map (quantifier_of c) q.items) ≡ Some quants → columns_of c quants q.select ≡ Some select → all_of (map (predicate_of c quants) q.comparisons) ≡ Some preds
     → columns_of c quants q.order ≡ Some order → site_of c q.site ≡ Some s
-    → query_of c q ≡ Some (record { catalogue = c; quants = quants; select = select; preds = preds; order = order; site = s })
+    → query_of c q ≡ Some (weighed [] (record { catalogue = c; quants = quants; select = select; preds = preds; order = order; site = s }))
 unfolding query_of
 query_is c q quants select preds order s e1 e2 e3 e4 e5 = rw (e1, e2, e3, e4, e5) refl
 
@@ -120,4 +121,4 @@ means_query c q formed known once =
     let order = all_there (column_of c quants.0) q.order
     (list_all-from (is_column c q.items) (λ n. is_some (column_of c quants.0 n)) (column_there c formed q.items quants.0 different quants.1) q.order comparisons_and_order.1) in
     let at = site_there c q.site (λ name is. true_from_ne_false (is_site c name) (λ none. known (faults.site name is none))) in
-    (record { catalogue = c; quants = quants.0; select = select.0; preds = preds.0; order = order.0; site = at.0 }, query_is c q quants.0 select.0 preds.0 order.0 at.0 quants.1 select.1 preds.1 order.1 at.1)
+    (weighed [] (record { catalogue = c; quants = quants.0; select = select.0; preds = preds.0; order = order.0; site = at.0 }), query_is c q quants.0 select.0 preds.0 order.0 at.0 quants.1 select.1 preds.1 order.1 at.1)

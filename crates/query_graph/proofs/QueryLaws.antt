@@ -8,9 +8,11 @@ use Rattle.star_model.specs.declared.query.Cmp.{Cmp}
 use Rattle.star_model.specs.declared.query.Cmp.TheVariants as cmp
 use Rattle.spelling.specs.Lexemes.{Lexeme, Word, Symbol, comma, joined_by}
 use Rattle.star_model.specs.Names.{is_among}
+use Rattle.star_model.specs.Selectivity.{weighed}
 use Rattle.spelling.specs.Names.{found_in, all_of}
 use Rattle.query_graph.specs.Queries.{ColumnName, Item, Whole, Negative, Quoted, Side, OfColumn, OfConstant, Comparison, QueryStatement, column_lexemes, own_name, IsFreeIfAny, item_lexemes, cmp_lexeme, side_lexemes, comparison_lexemes, columns_lexemes, where_lexemes, order_lexemes, at_lexemes, query_lexemes, reserved_in_queries, IsFree, HasFreeNames, IsQueryStatement, SpellsQueryStatement, SpellsQuery, query_of, quantifier_of, columns_of, predicate_of, site_of}
 use Rattle.spelling.proofs.Laws.{one_list}
+use Rattle.star_model.proofs.Laws.{weighed_again}
 use Rattle.spelling.specs.SpelledSeries.{series, anything, differ, heads}
 
 same_column : (c d : ColumnName) (r s : List Lexeme) → Unit {0} → Unit {0} → Unit {0} → Unit {0} → column_lexemes c ++ r ≡ column_lexemes d ++ s → (c ≡ d) × (r ≡ s)
@@ -176,7 +178,7 @@ one_query catalogue text a b p q =
 
 -- a query is over the catalogue that it was read against
 pub keeps_catalogue : (catalogue : Catalogue) (text : List ℕ) (query : Query) → SpellsQuery catalogue text query → query.catalogue ≡ catalogue
-unfolding query_of
+unfolding query_of weighed
 keeps_catalogue catalogue text query spells =
     let s = spells.statement in
     option_and_then_some _ (all_of (map (quantifier_of catalogue) s.items)) query spells.means (λ quantifiers _ after_quantifiers.
@@ -185,3 +187,20 @@ keeps_catalogue catalogue text query spells =
     option_and_then_some _ (columns_of catalogue quantifiers s.order) query after_predicates (λ order _ after_order.
     option_and_then_some _ (site_of catalogue s.site) query after_order (λ site _ is.
     sym (ap (λ (found : Option Query). option_map_or (λ q. q.catalogue) found catalogue) is))))))
+
+-- its predicates have the usual selectivities
+pub usual_selectivities : (catalogue : Catalogue) (text : List ℕ) (query : Query) → SpellsQuery catalogue text query → weighed [] query ≡ query
+unfolding query_of
+usual_selectivities catalogue text query spells =
+    let s = spells.statement in
+    option_and_then_some _ (all_of (map (quantifier_of catalogue) s.items)) query spells.means (λ quantifiers _ after_quantifiers.
+    option_and_then_some _ (columns_of catalogue quantifiers s.select) query after_quantifiers (λ select _ after_select.
+    option_and_then_some _ (all_of (map (predicate_of catalogue quantifiers) s.comparisons)) query after_select (λ predicates _ after_predicates.
+    option_and_then_some _ (columns_of catalogue quantifiers s.order) query after_predicates (λ order _ after_order.
+    option_and_then_some _ (site_of catalogue s.site) query after_order (λ site _ is.
+    again (record { catalogue = catalogue; quants = quantifiers; select = select; preds = predicates; order = order; site = site }) query is)))))
+  where
+    again : (plain query : Query) → Some (weighed [] plain) ≡ Some query → weighed [] query ≡ query
+    again plain query is =
+        let same = some_same (weighed [] plain) query is in
+        ap (weighed []) (sym same) ∙ weighed_again [] [] plain ∙ same

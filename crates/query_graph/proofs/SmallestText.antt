@@ -5,6 +5,7 @@ use Rattle.star_model.specs.declared.catalogue.TableDef.{TableDef}
 use Rattle.star_model.specs.declared.catalogue.ColumnDef.{ColumnDef}
 use Rattle.spelling.specs.Lexemes.{IsStatements}
 use Rattle.star_model.specs.Names.{place_of}
+use Rattle.star_model.specs.Selectivity.{weighed}
 use Rattle.query_graph.specs.Queries.{only_column, query_lexemes, IsFree, query_of, SpellsQuery}
 use Rattle.star_model.proofs.Laws.{same_self}
 
@@ -22,7 +23,7 @@ pub one_column : (catalogue : Catalogue) (text : List ℕ) (t : TableDef) (c : C
       order = [];
       site = None;
     })
-unfolding query_of
+unfolding query_of weighed
 one_column catalogue text t c tables columns free are = record {
   statement = only_column t.name c.name;
   are = are;

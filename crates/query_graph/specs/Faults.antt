@@ -87,7 +87,7 @@ HasGreatConstant (p ∷ ps) = IsGreatSide p.right ⊎ HasGreatConstant ps
 abbrev pub Beyond : QueryStatement → LimitKind → Type 0
 Beyond q limit.Number = HasGreatConstant q.comparisons
 Beyond q limit.Name = HasLongWord (query_lexemes q)
-Beyond q limit.Quantifiers = 8 < length q.items
+Beyond q limit.Quantifiers = 12 < length q.items
 Beyond q limit.Predicates = 16 < length q.comparisons
 Beyond q limit.Select = 64 < length q.select
 Beyond q limit.OrderBy = 16 < length q.order

@@ -54,7 +54,7 @@ has_long_name q =
 
 abbrev pub first_count : QueryWords → Option LimitKind
 first_count q =
-    if nat_lt 8 (length q.items) then Some limit.Quantifiers
+    if nat_lt 12 (length q.items) then Some limit.Quantifiers
     else if nat_lt 16 (length q.comparisons) then Some limit.Predicates
     else if nat_lt 64 (length q.select) then Some limit.Select
     else if nat_lt 16 (length q.order) then Some limit.OrderBy

@@ -15,6 +15,7 @@ use Rattle.star_model.specs.declared.query.Operand.TheVariants as operand
 use Rattle.spelling.specs.Lexemes.{Lexeme, Word, Number, Text, Symbol, IsStatements, comma, dot, joined_by}
 use Rattle.star_model.specs.Every.{HasItem, Every}
 use Rattle.star_model.specs.Names.{place_of, is_among}
+use Rattle.star_model.specs.Selectivity.{weighed}
 use Rattle.spelling.specs.Names.{all_of, ◌>>=◌}
 
 -- ---- the grammar
@@ -190,13 +191,14 @@ module _ (catalogue : Catalogue) where
     operand_of (OfColumn c) = option_map (λ column. operand.Column column) (column_of c)
     operand_of (OfConstant c) = Some (operand.Constant (value_of c))
 
+    -- without a selectivity of its own yet: each row makes it true
     abbrev pub predicate_of : Comparison → Option Pred
     predicate_of p = do
       left ← column_of p.left
       right ← operand_of p.right
-      Some (record { left = left; cmp = p.cmp; right = right })
+      Some (record { left = left; cmp = p.cmp; right = right; num = 1; den = 1 })
 
-  -- the query; none where it names what isn't defined
+  -- the query, each predicate with the usual selectivity; none where it names what isn't defined
   unfoldable pub query_of : QueryStatement → Option Query
   query_of q = do
     quantifiers ← all_of (map quantifier_of q.items)
@@ -204,7 +206,7 @@ module _ (catalogue : Catalogue) where
     predicates ← all_of (map (predicate_of quantifiers) q.comparisons)
     order ← columns_of quantifiers q.order
     site ← site_of q.site
-    Some (record { catalogue = catalogue; quants = quantifiers; select = select; preds = predicates; order = order; site = site })
+    Some (weighed [] (record { catalogue = catalogue; quants = quantifiers; select = select; preds = predicates; order = order; site = site }))
 
 -- ---- the relation
 

@@ -18,7 +18,7 @@ pub mod words;
 pub use fault::QueryFault;
 pub use query_facts::{
     card, crossing, eligible, home, index_columns, is_equality, is_index_of, is_index_on, keys,
-    lies_in, only_member, site_asked, table_of, touches, used, width,
+    lies_in, only_member, site_asked, table_of, touches, used, weigh, width,
 };
 pub use read::read_query;
 pub use words::{ColumnWords, ComparisonWords, ConstantWords, ItemWords, QueryWords, SideWords};

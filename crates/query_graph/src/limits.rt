@@ -13,7 +13,7 @@ const LEAST: u64 = 9_223_372_036_854_775_808;
 
 const NAME_BYTES: usize = 64;
 
-const QUANTIFIERS: usize = 8;
+const QUANTIFIERS: usize = 12;
 
 const PREDICATES: usize = 16;
 

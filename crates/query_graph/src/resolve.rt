@@ -1,4 +1,4 @@
-// What the names of a query's statement stand for.
+// What the names of a query's statement stand for, and the query that it means.
 ghost use Rattle.std.specs.Prelude.{◌≡◌, ◌≤◌, ◌<◌, length, map, IfOk, IfSome, Some, None, pos, neg_ℤ};
 ghost use Rattle.star_model.specs.WellFormed.{WellFormedCatalogue};
 ghost use Rattle.spelling.specs.Names.{all_of};
@@ -10,10 +10,13 @@ ghost use Rattle.query_graph.specs.Fitting.{Fits};
 use crate::lookup::{column_place, quantifier_place, site_place, table_place};
 use crate::names::quantifier_name;
 use crate::words::{ColumnWords, ComparisonWords, ConstantWords, ItemWords, QueryWords, SideWords};
+use query_facts::weigh;
 use star_model::catalogue::{Catalogue, Value};
 use star_model::columns::{Col, ColList, Quant, Site};
 use star_model::lists::{List, Name};
+use star_model::num::Num;
 use star_model::query::{Operand, Pred, QuantDef, Query};
+use star_model::selects::Selects;
 use std::alloc::{AllocError, Global};
 
 fn quantifier_of(
@@ -56,7 +59,7 @@ fn quantifiers_of(
 // The column. Of several quantifiers of one name the first counts.
 fn column_of(catalogue: &Catalogue, quantifiers: &[QuantDef], column: &ColumnWords) -> Option<Col>
     requires catalogue { WellFormedCatalogue catalogue.now }
-    requires few { length quantifiers.now ≤ 8 }
+    requires few { length quantifiers.now ≤ 12 }
     ensures { result ≡ column_of catalogue.now quantifiers.now (said_column column.now) }
 {
     let quant = quantifier_place(quantifiers, column.quantifier.as_slice())?;
@@ -79,7 +82,7 @@ fn columns_of(
     columns: &[ColumnWords],
 ) -> Result<Option<List<Col>>, AllocError>
     requires catalogue { WellFormedCatalogue catalogue.now }
-    requires few { length quantifiers.now ≤ 8 }
+    requires few { length quantifiers.now ≤ 12 }
     ensures { IfOk result (λ found. found ≡ columns_of catalogue.now quantifiers.now (map said_column columns.now)) }
 {
     let mut found = List::new(alloc);
@@ -98,7 +101,7 @@ fn order_of(
     columns: &[ColumnWords],
 ) -> Option<ColList>
     requires catalogue { WellFormedCatalogue catalogue.now }
-    requires few { length quantifiers.now ≤ 8 }
+    requires few { length quantifiers.now ≤ 12 }
     requires short { length columns.now ≤ 16 }
     ensures { result ≡ columns_of catalogue.now quantifiers.now (map said_column columns.now) }
 {
@@ -136,7 +139,7 @@ fn operand_of(
     side: &SideWords,
 ) -> Result<Option<Operand>, AllocError>
     requires catalogue { WellFormedCatalogue catalogue.now }
-    requires few { length quantifiers.now ≤ 8 }
+    requires few { length quantifiers.now ≤ 12 }
     requires small { IsGreatSide (said_side side.now) → ⊥ }
     ensures { IfOk result (λ found. found ≡ operand_of catalogue.now quantifiers.now (said_side side.now)) }
 {
@@ -149,6 +152,7 @@ fn operand_of(
     }
 }
 
+// The predicate, without a selectivity of its own yet.
 fn predicate_of(
     alloc: Global,
     catalogue: &Catalogue,
@@ -156,7 +160,7 @@ fn predicate_of(
     comparison: &ComparisonWords,
 ) -> Result<Option<Pred>, AllocError>
     requires catalogue { WellFormedCatalogue catalogue.now }
-    requires few { length quantifiers.now ≤ 8 }
+    requires few { length quantifiers.now ≤ 12 }
     requires small { IsGreatSide (said_side comparison.now.right) → ⊥ }
     ensures { IfOk result (λ found. found ≡ predicate_of catalogue.now quantifiers.now (said_comparison comparison.now)) }
 {
@@ -170,6 +174,8 @@ fn predicate_of(
         left,
         cmp: comparison.cmp,
         right,
+        num: Num::cut(1),
+        den: Num::cut(1),
     }))
 }
 
@@ -180,7 +186,7 @@ fn predicates_of(
     comparisons: &[ComparisonWords],
 ) -> Result<Option<List<Pred>>, AllocError>
     requires catalogue { WellFormedCatalogue catalogue.now }
-    requires few { length quantifiers.now ≤ 8 }
+    requires few { length quantifiers.now ≤ 12 }
     requires small { HasGreatConstant (map said_comparison comparisons.now) → ⊥ }
     ensures { IfOk result (λ found. found ≡ all_of (map (predicate_of catalogue.now quantifiers.now) (map said_comparison comparisons.now))) }
 {
@@ -208,7 +214,7 @@ fn site_of(catalogue: &Catalogue, site: &Option<Name>) -> Option<Option<Site>>
     }
 }
 
-/// The query that the statement means; none where it names what isn't defined.
+/// The query that the statement means, each predicate with the usual selectivity; none where it names what isn't defined.
 #[tactic(auto, unfolding(crate::specs::Queries::query_of))]
 pub fn query_of(
     alloc: Global,
@@ -241,12 +247,14 @@ pub fn query_of(
     let Some(site) = site_of(catalogue, &words.site) else {
         return Ok(None);
     };
-    Ok(Some(Query {
+    let mut query = Query {
         catalogue: catalogue.copy(alloc)?,
         quants,
         select,
         preds,
         order,
         site,
-    }))
+    };
+    weigh(&mut query, &Selects::new(alloc));
+    Ok(Some(query))
 }

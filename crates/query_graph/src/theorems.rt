@@ -2,12 +2,13 @@
 
 ghost use Rattle.std.specs.Prelude.{◌≡◌, ℕ, List, None, Some, [], ◌∷◌};
 ghost use Rattle.sb_text.specs.Refusal.{fault_of};
+ghost use Rattle.star_model.specs.Selectivity.{weighed};
 ghost use Rattle.star_model.specs.WellFormed.{WellFormedCatalogue, WellFormedQuery};
 ghost use Rattle.star_model.specs.declared.catalogue.Catalogue.{Catalogue};
 ghost use Rattle.star_model.specs.declared.faults.LimitKind.{LimitKind};
 ghost use Rattle.star_model.specs.declared.query.Query.{Query};
 ghost use Rattle.spelling.specs.Firsts.{NoneHas};
-ghost use Rattle.query_graph.specs.Queries.{QueryStatement, IsQueryStatement, query_of, SpellsQuery, only_column, query_lexemes, IsFree, SpellsQueryStatement};
+ghost use Rattle.query_graph.specs.Queries.{QueryStatement, query_of, SpellsQuery, only_column, query_lexemes, IsFree, SpellsQueryStatement};
 ghost use Rattle.query_graph.specs.declared.fault.QueryFault.{QueryFault};
 ghost use Rattle.query_graph.specs.Faults.{NamesUnknown, DefinesTwice, Beyond, HasTwoTypes, Says, HasFault, IsFirstFault, IsAccepted};
 ghost use Rattle.spelling.specs.Lexemes.{Lexeme, IsStatements};
@@ -26,11 +27,11 @@ pub fn queries_without_fault_are_accepted()
         → NoneHas (λ before p. HasTwoTypes query p) query.preds → WellFormedQuery query → IsAccepted catalogue text query }
 {}
 
-/// A statement whose names are all defined, and whose quantifiers' names differ, means a query. Where it keeps the limits, and no
-/// predicate compares two types, the query is well formed.
+/// A statement whose names are all defined, and whose quantifiers' names differ, means a query. Where a text says it, it keeps the
+/// limits, and no predicate compares two types, the query is well formed.
 pub fn clear_statements_mean_queries()
     ensures means { (c : Catalogue) (q : QueryStatement) → WellFormedCatalogue c → (NamesUnknown c q → ⊥) → (DefinesTwice q → ⊥) → (query : Query) × (query_of c q ≡ Some query) }
-    ensures formed { (c : Catalogue) (q : QueryStatement) (query : Query) → WellFormedCatalogue c → IsQueryStatement q → (DefinesTwice q → ⊥) → ((what : LimitKind) → Beyond q what → ⊥)
+    ensures formed { (c : Catalogue) (text : List ℕ) (q : QueryStatement) (query : Query) → WellFormedCatalogue c → Says text q → (DefinesTwice q → ⊥) → ((what : LimitKind) → Beyond q what → ⊥)
         → query_of c q ≡ Some query → NoneHas (λ before p. HasTwoTypes query p) query.preds → WellFormedQuery query }
 {}
 
@@ -48,6 +49,11 @@ pub fn one_query()
 /// A query is over the catalogue that it was read against.
 pub fn queries_keep_their_catalogue()
     ensures { (catalogue : Catalogue) (text : List ℕ) (query : Query) → SpellsQuery catalogue text query → query.catalogue ≡ catalogue }
+{}
+
+/// The predicates of a query that a text spells have the usual selectivities.
+pub fn spelled_queries_have_usual_selectivities()
+    ensures { (catalogue : Catalogue) (text : List ℕ) (query : Query) → SpellsQuery catalogue text query → weighed [] query ≡ query }
 {}
 
 /// What a statement spells that selects the only column of the only table.

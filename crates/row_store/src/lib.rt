@@ -11,6 +11,6 @@ mod table;
 pub mod theorems;
 
 pub use fault::TableFault;
-pub use index::{RowOrder, build_index};
+pub use index::{RowOrder, build_index, compare_cells};
 pub use loading::load;
 pub use table::{Cell, Table};

@@ -66,10 +66,11 @@ impl Table {
         }
     }
 
-    /// How many rows there are: at most 200,000.
+    /// How many rows there are: at most 200,000. Of the values in a column all have one type.
     pub fn rows(&self) -> u32
         ensures count { result ≡ length self.now }
         ensures few { result ≤ 200000 }
+        ensures types { HaveTypes self.now }
     {
         (self.raw.len() - 1) as u32
     }
@@ -94,7 +95,7 @@ impl Table {
     }
 
     /// The same, and 0 past the last row or column.
-    pub(crate) fn cell_or_zero(&self, row: u32, column: u8) -> Cell<'_>
+    pub fn cell_or_zero(&self, row: u32, column: u8) -> Cell<'_>
         ensures { value_of_cell result ≡ value_at self.now row column }
     {
         if row < self.rows() && (column as usize) < self.columns.len() {

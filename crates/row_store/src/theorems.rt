@@ -1,6 +1,11 @@
 // The laws of the definitions, each the clause of a function that does nothing.
 
-ghost use Rattle.std.specs.Prelude.{◌≡◌, ◌↔◌, ◌⊎◌, ◌<◌, ℕ, List, length, map, slice_get, All, Some, Result, Ok, Err};
+ghost use Rattle.std.specs.Prelude.{◌≡◌, ◌↔◌, ◌⊎◌, ◌<◌, ℕ, true, List, length, map, slice_get, All, Some, Result, Ok, Err};
+ghost use Rattle.std.specs.Cmp.{IsTotalOrder};
+ghost use Rattle.std.specs.Cmp.Lexicographic.{slice_cmp};
+ghost use Rattle.std.specs.Ordering.{is_lt, is_eq};
+ghost use Rattle.std.specs.declared.cmp.Ordering.TheVariants.{Equal};
+ghost use Rattle.star_model.specs.Answers.{is_below, is_same, stands_before};
 ghost use Rattle.star_model.specs.WellFormed.{type_of_value};
 ghost use Rattle.star_model.specs.Data.{Record, table_rows};
 ghost use Rattle.star_model.specs.declared.catalogue.Catalogue.{Catalogue};
@@ -10,6 +15,7 @@ ghost use Rattle.row_store.specs.declared.fault.TableFault.{TableFault};
 ghost use Rattle.row_store.specs.declared.fault.TableFault.TheVariants.{Memory};
 ghost use Rattle.row_store.specs.Faults.{HasNoFault, IsFirstFault, Loads};
 ghost use Rattle.row_store.specs.Indexes.{IsIndexOf};
+ghost use Rattle.row_store.specs.Comparing.{value_cmp};
 
 /// The records of a table have exactly one first fault, or none.
 pub fn one_fault()
@@ -37,4 +43,18 @@ pub fn rows_fit_their_table()
 /// By one list of columns rows have one order.
 pub fn one_index()
     ensures { (rows : List (List Value)) (columns a b : List ℕ) → IsIndexOf rows columns a → IsIndexOf rows columns b → a ≡ b }
+{}
+
+/// Comparing is a total order of all values, in which only equal ones tie; so it is of lists of values.
+pub fn values_are_in_order()
+    ensures total { IsTotalOrder value_cmp }
+    ensures equal { (v w : Value) → value_cmp v w ≡ Equal → v ≡ w }
+    ensures lists { (vs ws : List Value) → slice_cmp value_cmp vs ws ≡ Equal → vs ≡ ws }
+{}
+
+/// It is the comparison of predicates and of orders, where the values have one type; and what stands before by that is less in any case.
+pub fn values_compare_as_in_answers()
+    ensures less { (v w : Value) → type_of_value v ≡ type_of_value w → is_lt (value_cmp v w) ≡ is_below v w }
+    ensures same { (v w : Value) → type_of_value v ≡ type_of_value w → is_eq (value_cmp v w) ≡ is_same v w }
+    ensures before { (vs ws : List Value) → stands_before vs ws ≡ true → is_lt (slice_cmp value_cmp vs ws) ≡ true }
 {}

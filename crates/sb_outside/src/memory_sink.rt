@@ -114,6 +114,7 @@ impl Sink for MemorySink {
         ensures no_fault { OnOk result ((state_of self.new).faults ≡ (state_of self.old).faults) }
         ensures part { OnErr result (AddsPrefix (state_of self.old).taken piece.now (state_of self.new).taken) }
         ensures failed { OnErr result (Rose (state_of self.old).faults (state_of self.new).faults) }
+        ensures kept { (state_of self.old).faults ≤ (state_of self.new).faults }
 
         // What each answer comes from, and what becomes of the sink.
         ensures whole { OnOk result ((cut_of self.old (length piece.now) ≡ None)

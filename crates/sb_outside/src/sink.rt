@@ -1,5 +1,5 @@
 // A sink of bytes.
-ghost use Rattle.std.specs.Prelude.{◌≡◌, OnOk, OnErr};
+ghost use Rattle.std.specs.Prelude.{◌≡◌, ◌≤◌, OnOk, OnErr};
 ghost use Rattle.sb_outside.specs.Counts.{Rose, RoseAtMost};
 ghost use Rattle.sb_outside.specs.Sink.{SinkState, Adds, AddsPrefix};
 
@@ -19,5 +19,6 @@ pub trait Sink {
         ensures added { OnOk result (Adds (state self.old).taken piece.now (state self.new).taken) }
         ensures no_fault { OnOk result ((state self.new).faults ≡ (state self.old).faults) }
         ensures part { OnErr result (AddsPrefix (state self.old).taken piece.now (state self.new).taken) }
-        ensures failed { OnErr result (Rose (state self.old).faults (state self.new).faults) };
+        ensures failed { OnErr result (Rose (state self.old).faults (state self.new).faults) }
+        ensures kept { (state self.old).faults ≤ (state self.new).faults };
 }

@@ -5,12 +5,15 @@ use Rattle.std.specs.List.{list_any, flat_map, find}
 use Rattle.star_model.specs.Costs.{row_of, flavours, same_flavour, same_which, formula_of}
 use Rattle.star_model.specs.Accepted.{operators_in, bodies_of, is_used, lacks_formula}
 use Rattle.star_model.specs.declared.rules.Flavour.{Flavour}
-use Rattle.star_model.specs.declared.rules.Flavour.TheVariants.{AccessHeap, AccessIndex, Get, Filter, Sort, Store, Ship, Probe, JoinNl, JoinMerge, JoinHash}
+use Rattle.star_model.specs.declared.rules.Flavour.TheVariants.{AccessHeap, AccessIndex, Get, Filter, Sort, Store, Ship, Probe, JoinNl, JoinMerge, JoinHash, Intersect}
 use Rattle.star_model.specs.declared.rules.Which.{Which}
 use Rattle.star_model.specs.declared.rules.Which.TheVariants as which
 use Rattle.star_model.specs.declared.rules.FormulaDef.{FormulaDef}
 use Rattle.star_model.specs.declared.rules.RuleFile.{RuleFile}
 use Rattle.star_model.proofs.Laws.{one_row}
+use Rattle.star_model.specs.Every.{Every}
+use Rattle.star_model.specs.WellFormedRules.{IsFormulaDef}
+use Rattle.star_check.specs.Offences.{HasFewNodes}
 use Rattle.star_check.specs.FileFaults.{is_of_glue, IsMissingFormula}
 use Rattle.std.proofs.lemmas.Bool.{false≢true}
 use Rattle.star_check.proofs.Walks.{any_flat_map, any_map}
@@ -79,9 +82,9 @@ none_found test n (x ∷ xs) rows h g low high passes = step (test x) refl h (λ
 
 rows : HaveRows 0 flavours
 unfolding HaveRows
-rows = (refl, (refl, (refl, (refl, (refl, (refl, (refl, (refl, (refl, (refl, (refl, tt)))))))))))
+rows = (refl, (refl, (refl, (refl, (refl, (refl, (refl, (refl, (refl, (refl, (refl, (refl, tt))))))))))))
 
-low_row : (f : Flavour) → row_of f < 11
+low_row : (f : Flavour) → row_of f < 12
 low_row AccessHeap = lit< tt
 low_row AccessIndex = lit< tt
 low_row Get = lit< tt
@@ -93,6 +96,7 @@ low_row Probe = lit< tt
 low_row JoinNl = lit< tt
 low_row JoinMerge = lit< tt
 low_row JoinHash = lit< tt
+low_row Intersect = lit< tt
 
 pub missing : (rules : RuleFile) (found' : Option Flavour) → found' ≡ find (lacks_formula rules) flavours → IsMissingFormula rules found'
 missing rules None h = λ f. fails_from (lacks_formula rules f) (none_found (lacks_formula rules) 0 flavours rows (sym h) f (omega arith) (low_row f))
@@ -101,3 +105,9 @@ missing rules None h = λ f. fails_from (lacks_formula rules f) (none_found (lac
     fails_from true never = absurd (never refl)
     fails_from false never = refl
 missing rules (Some f) h = let first = found (lacks_formula rules) 0 flavours f rows (sym h) in (first.0, (λ g passes. first.1 g passes (omega arith)))
+
+-- ---- formulas of few nodes
+
+pub few_nodes : (version : ℕ) (ds : List FormulaDef) → Every (IsFormulaDef version) ds → Every HasFewNodes ds
+few_nodes version [] formed = tt
+few_nodes version (d ∷ ds) formed = (formed.0.formula.few_nodes, few_nodes version ds formed.1)

@@ -16,7 +16,7 @@ use Rattle.star_model.specs.declared.rules.StarDef.{StarDef}
 use Rattle.star_model.specs.declared.rules.RuleFile.{RuleFile}
 use Rattle.star_model.specs.WellFormedRules.{WellFormedRules}
 use Rattle.star_model.proofs.Laws.{one_row}
-use Rattle.star_check.proofs.Owned.{one_place, differ_back, differ_front}
+use Rattle.star_check.proofs.Owned.{one_place, stars_differ, formulas_differ}
 
 -- the place of the fault's case in the order of the refusals
 abbrev stage : RuleFault → ℕ
@@ -118,7 +118,7 @@ one_size rules size k j m n formed e p q =
     rules.stars
     p.0
     q.0
-    (differ_back (map (λ d. d.statement) rules.formulas) (map (λ s. s.statement) rules.stars) formed.numbers_differ)
+    (stars_differ rules formed)
     p.1
     q.1
     (p.2 ∙ e ∙ sym q.2) in
@@ -135,7 +135,7 @@ one_offence rules f g v w m n k j formed e p q =
     rules.formulas
     p.0
     q.0
-    (differ_front (map (λ d. d.statement) rules.formulas) (map (λ s. s.statement) rules.stars) formed.numbers_differ)
+    (formulas_differ rules formed)
     p.1
     q.1
     (p.2 ∙ e ∙ sym q.2) in

@@ -5,18 +5,19 @@ use Rattle.std.specs.Prelude.{Option, Some, None, is_some, filter, Contains}
 use Rattle.std.specs.List.{fold, reduce}
 use Rattle.std.proofs.lemmas.Bool.{false≢true, eq-eqb, cases_lt}
 use Rattle.star_model.specs.Monotone.{first_offending}
-use Rattle.star_model.specs.Accepted.{Never, First, OfStar, OfStarTest, OfFormula, Unknown, Twice, WrongArity, InCycle, NotMonotone, TooTall, is_star_twice, is_formula_twice, lacks_root, lacks_formula, Passed}
+use Rattle.star_model.specs.Accepted.{Never, First, OfStar, OfStarTest, OfFormula, OfSelect, Unknown, Twice, WrongArity, InCycle, NotMonotone, TooTall, is_star_twice, is_formula_twice, is_select_twice, lacks_root, lacks_formula, Passed}
 use Rattle.star_model.specs.declared.faults.Root.{Root}
 use Rattle.star_model.specs.declared.faults.RuleFault.{RuleFault}
 use Rattle.star_model.specs.declared.rules.Flavour.{Flavour}
 use Rattle.star_model.specs.declared.rules.StarDef.{StarDef}
 use Rattle.star_model.specs.declared.rules.FormulaDef.{FormulaDef}
+use Rattle.star_model.specs.declared.rules.SelectDef.{SelectDef}
 use Rattle.star_model.specs.declared.rules.RuleFile.{RuleFile}
 use Rattle.star_check.specs.declared.found.Found.{Found}
 use Rattle.star_check.specs.declared.not_monotone.Offence.{Offence}
 use Rattle.star_check.specs.Findings.{IsFirstFound}
 use Rattle.star_check.specs.Offences.{ShowsOffence}
-use Rattle.star_check.specs.FirstStatements.{FirstOrNever, first_star, first_formula, earlier, earlier_of, with_statement}
+use Rattle.star_check.specs.FirstStatements.{FirstOrNever, first_star, first_formula, first_select, first_twice, earlier, earlier_of, with_statement}
 use Rattle.star_check.specs.Passing.{NamesPass, ReferencesPass, FormulasPass, PassesOr}
 
 -- ---- the least key of the items that pass
@@ -98,7 +99,19 @@ formula_least rules test (Some k) some = (
 pub formula_case : (rules : RuleFile) (test : FormulaDef → Bool) → FirstOrNever rules (OfFormula rules (λ d. test d ≡ true)) (first_formula test rules.formulas)
 formula_case rules test = formula_least rules test (first_formula test rules.formulas) (least (λ d. d.statement) test rules.formulas)
 
--- ---- what is defined twice: by a STAR's statement or by a formula's
+select_least : (rules : RuleFile) (test : SelectDef → Bool) (r : Option ℕ) → IsLeast (λ (d : SelectDef). d.statement) test rules.selects r
+    → FirstOrNever rules (OfSelect rules (λ d. test d ≡ true)) r
+unfolding IsLeast
+select_least rules test None none = λ k case. none case.0 case.1 case.3
+select_least rules test (Some k) some = (
+  (some.0.0, some.0.1, some.0.2, some.0.3),
+  (λ j case. let l = some.1 case.0 case.1 case.3 in let e = case.2 in omega (arith, l, e)),
+)
+
+select_case : (rules : RuleFile) (test : SelectDef → Bool) → FirstOrNever rules (OfSelect rules (λ d. test d ≡ true)) (first_select test rules.selects)
+select_case rules test = select_least rules test (first_select test rules.selects) (least (λ d. d.statement) test rules.selects)
+
+-- ---- what is defined twice: by a STAR's statement, a formula's or a selectivity's
 
 union : (rules : RuleFile) (P Q : ℕ → Type 0) (a b : Option ℕ) → FirstOrNever rules P a → FirstOrNever rules Q b → FirstOrNever rules (λ k. P k ⊎ Q k) (earlier_of a b)
 union rules P Q None None p q = λ k case. elim case [ inl h ↦ p k h | inr h ↦ q k h ]
@@ -118,8 +131,7 @@ union rules P Q (Some i) (Some j) p q =
           )
     ]
 
-pub twice_case : (rules : RuleFile) (r : Option ℕ) → r ≡ earlier_of (first_star (is_star_twice rules) rules.stars) (first_formula (is_formula_twice rules) rules.formulas)
-    → FirstOrNever rules (Twice rules) r
+pub twice_case : (rules : RuleFile) (r : Option ℕ) → r ≡ first_twice rules → FirstOrNever rules (Twice rules) r
 twice_case rules r is =
     subst
     (FirstOrNever rules (Twice rules))
@@ -127,11 +139,18 @@ twice_case rules r is =
     (union
     rules
     (OfStarTest rules (is_star_twice rules))
-    (OfFormula rules (λ d. is_formula_twice rules d ≡ true))
+    (λ k. OfFormula rules (λ d. is_formula_twice rules d ≡ true) k ⊎ OfSelect rules (λ d. is_select_twice rules d ≡ true) k)
     (first_star (is_star_twice rules) rules.stars)
-    (first_formula (is_formula_twice rules) rules.formulas)
+    (earlier_of (first_formula (is_formula_twice rules) rules.formulas) (first_select (is_select_twice rules) rules.selects))
     (star_case rules (is_star_twice rules) (first_star (is_star_twice rules) rules.stars) refl)
-    (formula_case rules (is_formula_twice rules)))
+    (union
+    rules
+    (OfFormula rules (λ d. is_formula_twice rules d ≡ true))
+    (OfSelect rules (λ d. is_select_twice rules d ≡ true))
+    (first_formula (is_formula_twice rules) rules.formulas)
+    (first_select (is_select_twice rules) rules.selects)
+    (formula_case rules (is_formula_twice rules))
+    (select_case rules (is_select_twice rules))))
 
 -- ---- what is found with the statement
 

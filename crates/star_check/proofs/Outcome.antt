@@ -12,7 +12,7 @@ use Rattle.star_model.specs.Sets.{has, union, single}
 use Rattle.star_model.specs.Stars.{star_named}
 use Rattle.star_model.specs.Vectors.{same_numbers}
 use Rattle.star_model.specs.Monotone.{first_offending}
-use Rattle.star_model.specs.Accepted.{Never, OfStar, OfStarTest, Unknown, Twice, WrongArity, WrongKind, InCycle, GlueInAccess, NotMonotone, TooTall, TooWide, is_unknown, is_star_twice, is_formula_twice, has_wrong_arity, has_wrong_kind, IsInCycle, HasGlueInAccess, Reaches, lacks_root, lacks_formula, height_of, weight_of, IsAccepted, IsRefusedBy}
+use Rattle.star_model.specs.Accepted.{Never, OfStar, OfStarTest, Unknown, Twice, WrongArity, WrongKind, InCycle, GlueInAccess, NotMonotone, TooTall, TooWide, is_unknown, has_wrong_arity, has_wrong_kind, IsInCycle, HasGlueInAccess, Reaches, lacks_root, lacks_formula, height_of, weight_of, IsAccepted, IsRefusedBy}
 use Rattle.star_model.proofs.Laws.{has-zero, has-union, has-single}
 use Rattle.star_model.specs.declared.faults.Root.{Root}
 use Rattle.star_model.specs.declared.faults.Root.TheVariants as root
@@ -25,7 +25,7 @@ use Rattle.star_model.specs.declared.rules.RuleFile.{RuleFile}
 use Rattle.star_model.specs.WellFormedRules.{WellFormedRules}
 use Rattle.star_model.specs.Costs.{flavours}
 use Rattle.star_check.specs.FileFaults.{IsMissingFormula}
-use Rattle.star_check.specs.FirstStatements.{FirstOrNever, first_star, first_formula, earlier_of}
+use Rattle.star_check.specs.FirstStatements.{FirstOrNever, first_star, first_formula, first_twice}
 use Rattle.star_check.specs.Owning.{NamesAreOwn}
 use Rattle.star_check.specs.Passing.{NamesPass, ReferencesPass, FormulasPass}
 use Rattle.star_check.specs.Reaching.{refers, refers_to, joined_below, AreDirect, AreReached}
@@ -174,10 +174,7 @@ names rules = from_unknown (first_star (is_unknown rules) rules.stars) (star_cas
 
     from_unknown : (r : Option ℕ) → FirstOrNever rules (Unknown rules) r → NamesPass rules ⊎ ((f : RuleFault) × IsRefusedBy rules f)
     from_unknown None known =
-        from_twice
-        known
-        (earlier_of (first_star (is_star_twice rules) rules.stars) (first_formula (is_formula_twice rules) rules.formulas))
-        (twice_case rules (earlier_of (first_star (is_star_twice rules) rules.stars) (first_formula (is_formula_twice rules) rules.formulas)) refl)
+        from_twice known (first_twice rules) (twice_case rules (first_twice rules) refl)
     from_unknown (Some k) first = inr (fault.Unknown k, first)
 
 references : (rules : RuleFile) → NamesPass rules → NamesAreOwn rules → ReferencesPass rules ⊎ ((f : RuleFault) × IsRefusedBy rules f)

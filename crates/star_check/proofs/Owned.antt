@@ -12,16 +12,19 @@ use Rattle.std.proofs.lemmas.Option.{same_Some, none-some, slice_get-map, slice_
 use Rattle.star_model.specs.Stars.{star_named}
 use Rattle.star_model.specs.Vectors.{same_numbers}
 use Rattle.star_model.specs.Costs.{row_of, same_flavour, same_which, formula_of}
+use Rattle.star_model.specs.Selectivity.{place_of_class, same_class, select_of}
 use Rattle.star_model.specs.declared.rules.Flavour.{Flavour}
+use Rattle.star_model.specs.declared.rules.Class.{Class}
 use Rattle.star_model.specs.declared.rules.Which.{Which}
 use Rattle.star_model.specs.declared.rules.Which.TheVariants.{Cost, Rescan}
 use Rattle.star_model.specs.WellFormed.{differ}
-use Rattle.star_model.specs.Accepted.{Never, Unknown, Twice, is_unknown, is_star_twice, is_formula_twice, references_of, variables_in, values_of_alternative, repeats, parameters_of}
+use Rattle.star_model.specs.Accepted.{Never, Unknown, Twice, is_unknown, is_star_twice, is_formula_twice, is_select_twice, references_of, variables_in, values_of_alternative, repeats, parameters_of}
 use Rattle.star_model.specs.declared.rules.StarDef.{StarDef}
 use Rattle.star_model.specs.declared.rules.FormulaDef.{FormulaDef}
+use Rattle.star_model.specs.declared.rules.SelectDef.{SelectDef}
 use Rattle.star_model.specs.declared.rules.RuleFile.{RuleFile}
 use Rattle.star_model.specs.WellFormedRules.{WellFormedRules}
-use Rattle.star_check.specs.Owning.{NamesAreOwn, NamesAreKnown, FormulasAreOwn}
+use Rattle.star_check.specs.Owning.{NamesAreOwn, NamesAreKnown, FormulasAreOwn, SelectsAreOwn}
 use Rattle.star_check.proofs.Places.{Place, place, find_passes, find_none}
 use Rattle.star_model.proofs.Laws.{same_are, same_self}
 
@@ -37,7 +40,7 @@ any_at p (y ∷ ys) (suc i) x at h = ap (λ b. p y || b) (any_at p ys i x at h) 
 pub contains_at : {A : Type 0} (xs : List A) (i : ℕ) (x : A) → slice_get xs i ≡ Some x → Contains xs x
 contains_at xs i x at = (i, slice_get_within xs i x at, get_or_from_slice_get xs i x x at)
 
--- ---- the STARs' statements have numbers of their own
+-- ---- statements have numbers of their own
 
 later_differs : (k : ℕ) (ks : List ℕ) (i j : ℕ) → list_all (λ y. not (nat_eq k y)) ks ≡ true → slice_get ks i ≡ Some j → k ≡ j → ⊥
 later_differs k [] i j all at is = none-some j at
@@ -47,7 +50,7 @@ later_differs k (y ∷ ys) zero j all at is =
     false≢true (sym (ap not (eq-eqb k y same)) ∙ parts.0)
 later_differs k (y ∷ ys) (suc i) j all at is = later_differs k ys i j (and_parts (not (nat_eq k y)) (list_all (λ y. not (nat_eq k y)) ys) all).1 at is
 
-pub differ_back : (xs ys : List ℕ) → differ nat_eq (xs ++ ys) ≡ true → differ nat_eq ys ≡ true
+differ_back : (xs ys : List ℕ) → differ nat_eq (xs ++ ys) ≡ true → differ nat_eq ys ≡ true
 differ_back [] ys h = h
 differ_back (x ∷ xs) ys h = differ_back xs ys (and_parts (list_all (λ y. not (nat_eq x y)) (xs ++ ys)) (differ nat_eq (xs ++ ys)) h).1
 
@@ -67,12 +70,33 @@ one_place key (u ∷ us) (suc i) zero x y h at_x at_y is =
 one_place key (u ∷ us) (suc i) (suc j) x y h at_x at_y is =
     ap suc (one_place key us i j x y (and_parts (list_all (λ k. not (nat_eq (key u) k)) (map key us)) (differ nat_eq (map key us)) h).1 at_x at_y is)
 
-pub differ_front : (xs ys : List ℕ) → differ nat_eq (xs ++ ys) ≡ true → differ nat_eq xs ≡ true
+differ_front : (xs ys : List ℕ) → differ nat_eq (xs ++ ys) ≡ true → differ nat_eq xs ≡ true
 differ_front [] ys h = refl
 differ_front (x ∷ xs) ys h =
     let parts = and_parts (list_all (λ k. not (nat_eq x k)) (xs ++ ys)) (differ nat_eq (xs ++ ys)) h in
     let front = and_parts (list_all (λ k. not (nat_eq x k)) xs) (list_all (λ k. not (nat_eq x k)) ys) (sym (list_all-append (λ k. not (nat_eq x k)) xs ys) ∙ parts.0) in
     (λ i. front.0 i && differ_front xs ys parts.1 i)
+
+-- those of selectivities, of formulas and of STARs, among all
+selects_differ : (rules : RuleFile) → WellFormedRules rules → differ nat_eq (map (λ d. d.statement) rules.selects) ≡ true
+selects_differ rules formed =
+    differ_front
+    (map (λ d. d.statement) rules.selects)
+    (map (λ d. d.statement) rules.formulas ++ map (λ s. s.statement) rules.stars)
+    formed.numbers_differ
+
+others_differ : (rules : RuleFile) → WellFormedRules rules → differ nat_eq (map (λ d. d.statement) rules.formulas ++ map (λ s. s.statement) rules.stars) ≡ true
+others_differ rules formed =
+    differ_back
+    (map (λ d. d.statement) rules.selects)
+    (map (λ d. d.statement) rules.formulas ++ map (λ s. s.statement) rules.stars)
+    formed.numbers_differ
+
+pub formulas_differ : (rules : RuleFile) → WellFormedRules rules → differ nat_eq (map (λ d. d.statement) rules.formulas) ≡ true
+formulas_differ rules formed = differ_front (map (λ d. d.statement) rules.formulas) (map (λ s. s.statement) rules.stars) (others_differ rules formed)
+
+pub stars_differ : (rules : RuleFile) → WellFormedRules rules → differ nat_eq (map (λ s. s.statement) rules.stars) ≡ true
+stars_differ rules formed = differ_back (map (λ d. d.statement) rules.formulas) (map (λ s. s.statement) rules.stars) (others_differ rules formed)
 
 -- a STAR that an earlier statement defines is defined twice
 twice_from : (rules : RuleFile) (i j : ℕ) (s t : StarDef) → slice_get rules.stars i ≡ Some s → slice_get rules.stars j ≡ Some t → t.statement < s.statement → t.name ≡ s.name
@@ -105,8 +129,7 @@ names_are_own rules formed once = record { own = λ i s at. from i s at (place (
               elim (cases_lt s.statement t.statement) [
                 | inl more ↦ absurd (twice_from rules j i t s at_t at more (sym name) once)
                 | inr le ↦
-                    let differ_stars = differ_back (map (λ d. d.statement) rules.formulas) (map (λ u. u.statement) rules.stars) formed.numbers_differ in
-                    let place : j ≡ i = one_place (λ u. u.statement) rules.stars j i t s differ_stars at_t at (omega (arith, ge, le)) in
+                    let place : j ≡ i = one_place (λ u. u.statement) rules.stars j i t s (stars_differ rules formed) at_t at (omega (arith, ge, le)) in
                     found ∙ sym at_t ∙ ap (slice_get rules.stars) place ∙ at
               ]
         ]
@@ -143,7 +166,7 @@ formula_twice rules i j d e at_d at_e less same once =
     e
     at_e
     (λ k. (lt-ltb e.statement d.statement less k && parts.0 k) && parts.1 k) in
-    once d.statement (inr (d, contains_at rules.formulas i d at_d, refl, twice))
+    once d.statement (inr (inl (d, contains_at rules.formulas i d at_d, refl, twice)))
 
 pub formulas_are_own : (rules : RuleFile) → WellFormedRules rules → Never rules (Twice rules) → FormulasAreOwn rules.formulas
 formulas_are_own rules formed once = record { own = own }
@@ -176,7 +199,7 @@ formulas_are_own rules formed once = record { own = own }
                     j
                     d
                     e
-                    (differ_front (map (λ u. u.statement) rules.formulas) (map (λ s. s.statement) rules.stars) formed.numbers_differ)
+                    (formulas_differ rules formed)
                     at_d
                     at_e
                     (omega (arith, ge, le))
@@ -210,6 +233,62 @@ pub no_formula_yet : (ds : List FormulaDef) (i : ℕ) (d : FormulaDef) → Formu
 no_formula_yet ds i d own below is = none_of d.flavour d.which (take i ds) differs
   where
     differs : (j : ℕ) (e : FormulaDef) → slice_get (take i ds) j ≡ Some e → (same_flavour e.flavour d.flavour && same_which e.which d.which) ≡ true → ⊥
+    differs j e at same =
+        let here = taken ds i j e at in
+        let less : j < i = here.0 in
+        let place : i ≡ j = own.own i j d e (slice_get-get_or ds i d below ∙ ap Some (sym is)) here.1 same in
+        omega (arith, less, place)
+
+-- ---- selectivities
+
+same_class_turned : (c d : Class) → same_class c d ≡ same_class d c
+same_class_turned c d = nat_eq_equiv.symm (place_of_class c) (place_of_class d)
+
+select_twice : (rules : RuleFile) (i j : ℕ) (d e : SelectDef) → slice_get rules.selects i ≡ Some d → slice_get rules.selects j ≡ Some e → e.statement < d.statement
+    → same_class e.class d.class ≡ true → Never rules (Twice rules) → ⊥
+select_twice rules i j d e at_d at_e less same once =
+    let twice : is_select_twice rules d ≡ true =
+    any_at
+    (λ u. nat_lt u.statement d.statement && same_class u.class d.class)
+    rules.selects
+    j
+    e
+    at_e
+    (λ k. lt-ltb e.statement d.statement less k && same k) in
+    once d.statement (inr (inr (d, contains_at rules.selects i d at_d, refl, twice)))
+
+pub selects_are_own : (rules : RuleFile) → WellFormedRules rules → Never rules (Twice rules) → SelectsAreOwn rules.selects
+selects_are_own rules formed once = record { own = own }
+  where
+    own : (i j : ℕ) (d e : SelectDef) → slice_get rules.selects i ≡ Some d → slice_get rules.selects j ≡ Some e → same_class e.class d.class ≡ true → i ≡ j
+    own i j d e at_d at_e same =
+        elim (cases_lt e.statement d.statement) [
+          | inl less ↦ absurd (select_twice rules i j d e at_d at_e less same once)
+          | inr ge ↦
+              elim (cases_lt d.statement e.statement) [
+                | inl more ↦ absurd (select_twice rules j i e d at_e at_d more (same_class_turned d.class e.class ∙ same) once)
+                | inr le ↦ one_place (λ u. u.statement) rules.selects i j d e (selects_differ rules formed) at_d at_e (omega (arith, ge, le))
+              ]
+        ]
+
+-- no selectivity of the list is of this class
+none_of_class : (c : Class) (es : List SelectDef) → ((j : ℕ) (e : SelectDef) → slice_get es j ≡ Some e → same_class e.class c ≡ true → ⊥)
+    → select_of (map (λ e. record { class = e.class; num = e.num; den = e.den }) es) c ≡ None
+unfolding select_of
+none_of_class c [] others = refl
+none_of_class c (e ∷ es) others = step (same_class e.class c) refl (none_of_class c es (λ j d at same. others (suc j) d at same))
+  where
+    step : (b : Bool) → same_class e.class c ≡ b → select_of (map (λ d. record { class = d.class; num = d.num; den = d.den }) es) c ≡ None
+        → (if b then Some (record { class = e.class; num = e.num; den = e.den }) else select_of (map (λ d. record { class = d.class; num = d.num; den = d.den }) es) c) ≡ None
+    step true is later = absurd (others 0 e refl is)
+    step false is later = later
+
+-- no selectivity among the first ones is of the class of the next
+pub no_select_yet : (ds : List SelectDef) (i : ℕ) (d : SelectDef) → SelectsAreOwn ds → i < length ds → d ≡ get_or ds i d
+    → select_of (map (λ e. record { class = e.class; num = e.num; den = e.den }) (take i ds)) d.class ≡ None
+no_select_yet ds i d own below is = none_of_class d.class (take i ds) differs
+  where
+    differs : (j : ℕ) (e : SelectDef) → slice_get (take i ds) j ≡ Some e → same_class e.class d.class ≡ true → ⊥
     differs j e at same =
         let here = taken ds i j e at in
         let less : j < i = here.0 in

@@ -2,18 +2,20 @@
 ghost use Rattle.std.specs.Prelude.{◌≡◌, map, IfOk};
 ghost use Rattle.std.specs.Option.{option_copied};
 ghost use Rattle.star_model.specs.Costs.{costs_of};
+ghost use Rattle.star_model.specs.Selectivity.{selects_of};
 ghost use Rattle.star_model.specs.Stars.{star_named};
 ghost use Rattle.star_model.specs.Accepted.{IsAccepted};
 ghost use Rattle.star_model.specs.WellFormedRules.{WellFormedRules};
 ghost use Rattle.star_check.specs.Checking.{Checks};
-ghost use Rattle.star_check.specs.Owning.{FormulasAreOwn};
+ghost use Rattle.star_check.specs.Owning.{FormulasAreOwn, SelectsAreOwn};
 
 use crate::faults::first_fault;
 use crate::names;
 use star_model::costs::Costs;
 use star_model::faults::RuleFault;
 use star_model::lists::Name;
-use star_model::rules::{FormulaDef, RuleFile, StarDef};
+use star_model::rules::{FormulaDef, RuleFile, SelectDef, StarDef};
+use star_model::selects::Selects;
 use std::alloc::{AllocError, Global};
 use std::marker::Model;
 
@@ -22,6 +24,7 @@ use std::marker::Model;
 pub struct CheckedRules {
     rules: RuleFile,
     costs: Costs,
+    selects: Selects,
 }
 
 impl Model for CheckedRules {
@@ -35,7 +38,7 @@ impl Model for CheckedRules {
 
     ghost view = { λ c. c.rules };
 
-    ghost invariant = { λ c. IsChecked c.rules c.costs };
+    ghost invariant = { λ c. IsChecked c.rules c.costs c.selects };
 }
 
 impl CheckedRules {
@@ -51,6 +54,13 @@ impl CheckedRules {
         ensures { result.now ≡ costs_of self.now }
     {
         &self.costs
+    }
+
+    /// The selectivities of the file.
+    pub fn selects(&self) -> &Selects
+        ensures { result.now ≡ selects_of self.now }
+    {
+        &self.selects
     }
 
     /// The file itself.
@@ -82,6 +92,20 @@ fn costs_of(alloc: Global, formulas: &[FormulaDef]) -> Result<Costs, AllocError>
     Ok(costs)
 }
 
+// The selectivities as a map.
+fn selects_of(alloc: Global, definitions: &[SelectDef]) -> Result<Selects, AllocError>
+    requires { SelectsAreOwn definitions.now }
+    ensures { IfOk result (λ selects. selects ≡ map (λ d. record { class = d.class; num = d.num; den = d.den }) definitions.now) }
+{
+    let mut selects = Selects::new(alloc);
+    for definition in definitions {
+        let num = definition.num.copy(alloc)?;
+        let den = definition.den.copy(alloc)?;
+        selects.put(definition.class, num, den)?;
+    }
+    Ok(selects)
+}
+
 /// Accepts a rule file, or says why not. The order of the refusals is that of `RuleFault`, each over the whole file. On a
 /// refusal the file is dropped.
 pub fn check_rules(alloc: Global, rules: RuleFile) -> Result<CheckedRules, RuleFault>
@@ -92,5 +116,10 @@ pub fn check_rules(alloc: Global, rules: RuleFile) -> Result<CheckedRules, RuleF
         return Err(fault);
     }
     let costs = costs_of(alloc, rules.formulas.as_slice())?;
-    Ok(CheckedRules { rules, costs })
+    let selects = selects_of(alloc, rules.selects.as_slice())?;
+    Ok(CheckedRules {
+        rules,
+        costs,
+        selects,
+    })
 }

@@ -2,8 +2,9 @@
 ghost use Rattle.std.specs.Prelude.{◌≤◌, length, IfOk};
 ghost use Rattle.star_model.specs.Accepted.{Unknown, Twice};
 ghost use Rattle.star_model.specs.Every.{Every};
-ghost use Rattle.star_model.specs.WellFormedRules.{KeepsFormulaLimits, WellFormedRules};
+ghost use Rattle.star_model.specs.WellFormedRules.{WellFormedRules};
 ghost use Rattle.star_check.specs.Checking.{IsFirstFault};
+ghost use Rattle.star_check.specs.Offences.{HasFewNodes};
 ghost use Rattle.star_check.specs.Owning.{NamesAreOwn, NamesAreKnown};
 ghost use Rattle.star_check.specs.Passing.{NamesPass, ReferencesPass, FormulasPass, PassesOr};
 
@@ -60,7 +61,7 @@ fn fault_of_references(alloc: Global, rules: &RuleFile) -> Result<Option<RuleFau
 
 // The fault in the roots and the formulas, if there is one.
 fn fault_of_formulas(rules: &RuleFile) -> Option<RuleFault>
-    requires few { Every KeepsFormulaLimits rules.now.formulas }
+    requires few { Every HasFewNodes rules.now.formulas }
     requires names { NamesPass rules.now }
     requires references { ReferencesPass rules.now }
     ensures { PassesOr rules.now (FormulasPass rules.now) result }

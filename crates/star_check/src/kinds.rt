@@ -166,6 +166,7 @@ pub fn argument_kinds(flavour: Flavour) -> &'static [Kind]
         Flavour::JoinNl => &[Kind::Preds],
         Flavour::JoinMerge => &[Kind::Preds, Kind::Preds],
         Flavour::JoinHash => &[Kind::Preds, Kind::Preds],
+        Flavour::Intersect => &[],
     }
 }
 

@@ -6,6 +6,7 @@ ghost use Rattle.star_model.specs.Accepted.{operators_in, is_used, lacks_formula
 ghost use Rattle.star_model.specs.declared.rules.Which.TheVariants as which;
 ghost use Rattle.star_check.specs.FileFaults.{is_of_glue, IsMissingFormula};
 
+use star_model::flavours::FLAVOURS;
 use star_model::rules::{Alternative, Flavour, FormulaDef, PlanExpr, RuleFile, StarDef, Which};
 
 fn same_flavour(left: Flavour, right: Flavour) -> bool
@@ -79,7 +80,8 @@ fn is_of_glue(flavour: Flavour) -> bool
         | Flavour::Probe
         | Flavour::JoinNl
         | Flavour::JoinMerge
-        | Flavour::JoinHash => false,
+        | Flavour::JoinHash
+        | Flavour::Intersect => false,
     }
 }
 
@@ -110,21 +112,6 @@ fn lacks_formula(rules: &RuleFile, flavour: Flavour) -> bool
 {
     is_used(rules, flavour) && lacks_one(rules.formulas.as_slice(), flavour)
 }
-
-// The operators in the order of their table.
-const FLAVOURS: [Flavour; 11] = [
-    Flavour::AccessHeap,
-    Flavour::AccessIndex,
-    Flavour::Get,
-    Flavour::Filter,
-    Flavour::Sort,
-    Flavour::Store,
-    Flavour::Ship,
-    Flavour::Probe,
-    Flavour::JoinNl,
-    Flavour::JoinMerge,
-    Flavour::JoinHash,
-];
 
 fn first_lacking(rules: &RuleFile) -> Option<Flavour>
     ensures { result ≡ find (lacks_formula rules.now) flavours }

@@ -2,9 +2,8 @@
 ghost use Rattle.std.specs.Prelude.{◌<◌, ◌^◌, length};
 ghost use Rattle.star_model.specs.Monotone.{nodes};
 ghost use Rattle.star_model.specs.Every.{Every};
-ghost use Rattle.star_model.specs.WellFormedRules.{KeepsFormulaLimits};
 ghost use Rattle.star_check.specs.Findings.{IsFirstFound, IsOwn};
-ghost use Rattle.star_check.specs.Offences.{ShowsOffence};
+ghost use Rattle.star_check.specs.Offences.{HasFewNodes, ShowsOffence};
 
 use crate::found::{Found, earlier_found};
 use monotone_check::check;
@@ -38,7 +37,7 @@ fn offence_of(definition: &FormulaDef) -> Option<Found<Offence>>
 
 /// The formula of the first statement that fails.
 pub fn first_offence(formulas: &[FormulaDef]) -> Option<Found<Offence>>
-    requires { Every KeepsFormulaLimits formulas.now }
+    requires { Every HasFewNodes formulas.now }
     ensures { IsFirstFound ShowsOffence formulas.now result }
 {
     let mut first = None;

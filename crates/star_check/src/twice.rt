@@ -1,16 +1,17 @@
-// What is defined twice: STARs, formulas, parameters and for-all names.
+// What is defined twice: STARs, formulas, selectivities, parameters and for-all names.
 ghost use Rattle.std.specs.Prelude.{◌≡◌, nat_lt, ◌&&◌, ◌||◌};
 ghost use Rattle.std.specs.List.{list_any};
 ghost use Rattle.star_model.specs.Vectors.{same_numbers};
 ghost use Rattle.star_model.specs.Costs.{same_flavour, same_which};
-ghost use Rattle.star_model.specs.Accepted.{is_star_twice, is_formula_twice};
-ghost use Rattle.star_check.specs.FirstStatements.{first_star, first_formula, earlier_of};
+ghost use Rattle.star_model.specs.Selectivity.{same_class};
+ghost use Rattle.star_model.specs.Accepted.{is_star_twice, is_formula_twice, is_select_twice};
+ghost use Rattle.star_check.specs.FirstStatements.{first_star, first_formula, first_select, first_twice};
 ghost use Rattle.star_check.specs.Repeated.{recurs, ranges_repeat};
 
 use crate::first::earlier_of;
 use crate::names::same_name;
 use star_model::lists::Name;
-use star_model::rules::{Alternative, ForAll, FormulaDef, Param, RuleFile, StarDef};
+use star_model::rules::{Alternative, ForAll, FormulaDef, Param, RuleFile, SelectDef, StarDef};
 
 fn is_parameter(params: &[Param], name: &Name) -> bool
     ensures { result ≡ list_any (λ p. same_numbers name.now p.name) params.now }
@@ -102,6 +103,22 @@ fn is_formula_twice(rules: &RuleFile, definition: &FormulaDef) -> bool
         .any(|other| defines_before(other, definition))
 }
 
+fn weighs_before(other: &SelectDef, definition: &SelectDef) -> bool
+    ensures { result ≡ (nat_lt other.now.statement definition.now.statement && same_class other.now.class definition.now.class) }
+{
+    other.statement < definition.statement && other.class == definition.class
+}
+
+fn is_select_twice(rules: &RuleFile, definition: &SelectDef) -> bool
+    ensures { result ≡ is_select_twice rules.now definition.now }
+{
+    rules
+        .selects
+        .as_slice()
+        .iter()
+        .any(|other| weighs_before(other, definition))
+}
+
 fn first_star_twice(rules: &RuleFile) -> Option<u32>
     ensures { result ≡ first_star (is_star_twice rules.now) rules.now.stars }
 {
@@ -126,9 +143,24 @@ fn first_formula_twice(rules: &RuleFile) -> Option<u32>
         .min()
 }
 
+fn first_select_twice(rules: &RuleFile) -> Option<u32>
+    ensures { result ≡ first_select (is_select_twice rules.now) rules.now.selects }
+{
+    rules
+        .selects
+        .as_slice()
+        .iter()
+        .filter(|definition| is_select_twice(rules, definition))
+        .map(|definition| definition.statement)
+        .min()
+}
+
 /// The first statement that defines what an earlier one defines, or has a name twice.
 pub fn first_twice(rules: &RuleFile) -> Option<u32>
-    ensures { result ≡ earlier_of (first_star (is_star_twice rules.now) rules.now.stars) (first_formula (is_formula_twice rules.now) rules.now.formulas) }
+    ensures { result ≡ first_twice rules.now }
 {
-    earlier_of(first_star_twice(rules), first_formula_twice(rules))
+    earlier_of(
+        first_star_twice(rules),
+        earlier_of(first_formula_twice(rules), first_select_twice(rules)),
+    )
 }

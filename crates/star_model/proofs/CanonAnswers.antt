@@ -1,14 +1,16 @@
 -- Members of an answer stand alike by a list of columns and by its canonical form.
-use Rattle.std.proofs.Common.{◌≡◌, ℕ, ◌+◌, ◌<◌, ◌≤◌, ◌^◌, Bool, true, false, not, ◌&&◌, ◌||◌, nat_eq, List, [], ◌∷◌, ◌++◌, map, filter, cond, refl, ap, sym, ◌∙◌, subst, ◌⊎◌, inl, inr, arith, length, get_or}
+use Rattle.std.proofs.Common.{◌≡◌, ℕ, ◌+◌, ◌<◌, ◌≤◌, ◌^◌, Bool, true, false, ◌&&◌, nat_eq, List, [], ◌∷◌, ◌++◌, map, filter, cond, refl, ap, sym, ◌∙◌, subst, ◌⊎◌, inl, inr, arith, length, get_or}
 use Prim.Native.Nat.{zero, suc}
-use Rattle.std.specs.Prelude.{Option, Some, None, if◌then◌else◌, slice_index_or, pos, All, IsSortedBy, ◌↔◌}
+use Rattle.std.specs.Prelude.{Some, None, if◌then◌else◌, slice_index_or, pos, All, IsSortedBy, ◌↔◌}
 use Rattle.std.specs.List.{list_all, filter_map, cons_option, find, range_with_len}
 use Rattle.std.specs.Option.{option_map_or}
+use Rattle.std.specs.Cmp.Lexicographic.{slice_cmp}
+use Rattle.std.specs.declared.cmp.Ordering.{Ordering}
 use Rattle.std.proofs.lemmas.Bool.{and_parts, eqb-true}
 use Rattle.std.proofs.lemmas.Bool.Decides.{nat_tests}
 use Rattle.star_model.specs.Sets.{has, members, places}
 use Rattle.star_model.specs.Predicates.{preds_in}
-use Rattle.star_model.specs.Answers.{Data, Assignment, position_of, rows_for, value_of, is_same, comparison_holds, value_of_operand, makes_true, IsAnswer, is_earlier, values_of_columns}
+use Rattle.star_model.specs.Answers.{Data, Assignment, position_of, rows_for, value_of, comparison_holds, value_of_operand, makes_true, IsAnswer, is_earlier, values_of_columns}
 use Rattle.star_model.specs.declared.columns.Col.{Col}
 use Rattle.star_model.specs.declared.catalogue.Value.{Value}
 use Rattle.star_model.specs.declared.catalogue.Value.TheVariants as constant
@@ -21,7 +23,7 @@ use Rattle.star_model.specs.declared.query.Operand.TheVariants as operand
 use Rattle.star_model.proofs.SetLaws.{has-above}
 use Rattle.star_model.specs.Canon.{ColPair, equal_columns, equality_within, equalities_within, canon}
 use Rattle.star_model.proofs.CanonLaws.{In, Agree}
-use Rattle.star_model.proofs.CanonOrder.{values_are, stands_by_canon}
+use Rattle.star_model.proofs.CanonOrder.{values_are, same_by_canon, stands_by_canon}
 
 -- where the predicates are true, the two columns of each equality have one value
 module _ (s : ℕ) (v : Col → Value) where
@@ -45,6 +47,30 @@ module _ (s : ℕ) (v : Col → Value) where
   pub agree_where : (preds : List Pred) → list_all says preds ≡ true → Agree v (filter_map (equality_within s) preds)
   agree_where [] h = tt
   agree_where (p ∷ preds) h = let parts = and_parts _ _ h in agree_one p.left p.cmp p.right (filter_map (equality_within s) preds) parts.0 (agree_where preds parts.1)
+
+-- ---- where an assignment makes the predicates true
+
+module _ (q : Query) (d : Data) (s : ℕ) where
+  says_so : (a : Assignment) (p : Pred) → makes_true q d a p ≡ says s (value_of q d a) p
+  says_so a p = at p.right
+    where
+      at : (r : Operand) → comparison_holds p.cmp (value_of q d a p.left) (value_of_operand q d a r) ≡ comparison_holds p.cmp (value_of q d a p.left) (elim r [ operand.Column c ↦ value_of q d a c | operand.Constant x ↦ x ])
+      at (operand.Column c) = refl
+      at (operand.Constant x) = refl
+
+  all_say : (a : Assignment) (ps : List Pred) → list_all (makes_true q d a) ps ≡ true → list_all (says s (value_of q d a)) ps ≡ true
+  all_say a [] h = refl
+  all_say a (p ∷ ps) h = let parts = and_parts _ _ h in (λ i. (sym (says_so a p) ∙ parts.0) i && list_all (says s (value_of q d a)) ps) ∙ all_say a ps parts.1
+
+  agree_true : (preds : ℕ) (a : Assignment) → list_all (makes_true q d a) (preds_in q preds) ≡ true → Agree (value_of q d a) (equalities_within q preds s)
+  agree_true preds a h = agree_where s (value_of q d a) (preds_in q preds) (all_say a (preds_in q preds) h)
+
+  -- two that do compare alike by a list of columns and by its canonical form
+  pub compared_by_canon : (R : Value → Value → Ordering) (preds : ℕ) (cols : List Col) (a b : Assignment)
+      → list_all (makes_true q d a) (preds_in q preds) ≡ true → list_all (makes_true q d b) (preds_in q preds) ≡ true
+      → slice_cmp R (values_of_columns q d (canon q preds s cols) a) (values_of_columns q d (canon q preds s cols) b) ≡ slice_cmp R (values_of_columns q d cols a) (values_of_columns q d cols b)
+  unfolding canon
+  compared_by_canon R preds cols a b h k = same_by_canon R (value_of q d a) (value_of q d b) (equalities_within q preds s) (agree_true preds a h) (agree_true preds b k) cols
 
 -- ---- an outer assignment doesn't count for the columns of the answer's own quantifiers
 
@@ -113,19 +139,8 @@ module _ (q : Query) (d : Data) (s preds : ℕ) (fits : s < 2 ^ 32) (outer : Ass
   inside a quants [] h = tt
   inside a quants (p ∷ ps) h = inside_one a quants p.left p.cmp p.right (filter_map (equality_within s) ps) (inside a quants ps) h
 
-  says_so : (a : Assignment) (p : Pred) → makes_true q d a p ≡ says s (value_of q d a) p
-  says_so a p = at p.right
-    where
-      at : (r : Operand) → comparison_holds p.cmp (value_of q d a p.left) (value_of_operand q d a r) ≡ comparison_holds p.cmp (value_of q d a p.left) (elim r [ operand.Column c ↦ value_of q d a c | operand.Constant x ↦ x ])
-      at (operand.Column c) = refl
-      at (operand.Constant x) = refl
-
-  all_say : (a : Assignment) (ps : List Pred) → list_all (makes_true q d a) ps ≡ true → list_all (says s (value_of q d a)) ps ≡ true
-  all_say a [] h = refl
-  all_say a (p ∷ ps) h = let parts = and_parts _ _ h in (λ i. (sym (says_so a p) ∙ parts.0) i && list_all (says s (value_of q d a)) ps) ∙ all_say a ps parts.1
-
   agree_in : (a : Assignment) → IsAnswer q d s preds outer a → Agree (value_of q d a) (equalities_within q preds s)
-  agree_in a h = inside a h.quantifiers (preds_in q preds) (agree_where s (value_of q d (a ++ outer)) (preds_in q preds) (all_say (a ++ outer) (preds_in q preds) h.true_))
+  agree_in a h = inside a h.quantifiers (preds_in q preds) (agree_true q d s preds (a ++ outer) h.true_)
 
   -- of two members of an answer one is earlier by a list of columns exactly where it is by the canonical form
   pub earlier_by_canon : (cols : List Col) (a b : Assignment) → IsAnswer q d s preds outer a → IsAnswer q d s preds outer b → is_earlier q d (canon q preds s cols) a b ≡ is_earlier q d cols a b

@@ -11,11 +11,13 @@ pub use Rattle.star_model.proofs.SizeLaws.{part_is_smaller, left_is_smaller, rig
 pub use Rattle.star_model.proofs.MonotoneLaws.{monotone}
 pub use Rattle.star_model.proofs.OffendLaws.{passes_where}
 pub use Rattle.star_model.proofs.BetterLaws.{same_are, same_self, better_reflexive, better_transitive, better_antisymmetric, better_costs, better_meets}
-pub use Rattle.star_model.proofs.ExchangeLaws.{operators_exchange}
+pub use Rattle.star_model.proofs.ExchangeLaws.{stepped, operators_exchange}
 pub use Rattle.star_model.proofs.ChainLaws.{vector_card, chains_exchange, better_satisfies}
 pub use Rattle.star_model.proofs.CanonLaws.{canon_prefix, canon_again}
 pub use Rattle.star_model.proofs.CanonLeast.{least_is_equal, none_is_lower}
-pub use Rattle.star_model.proofs.CanonAnswers.{earlier_by_canon, sorted_by_canon}
+pub use Rattle.star_model.proofs.CanonOrder.{values_are}
+pub use Rattle.star_model.proofs.CanonAnswers.{compared_by_canon, earlier_by_canon, sorted_by_canon}
+pub use Rattle.star_model.proofs.CanonColumns.{canon_within}
 pub use Rattle.star_model.proofs.KindLaws.{means}
 pub use Rattle.star_model.proofs.StreamLaws.{streams_pass, stream_passes}
 pub use Rattle.star_model.proofs.MemberLaws.{member_has_kind, members_have_kind, member_passes, members_pass, few_members_of}

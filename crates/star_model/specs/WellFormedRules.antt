@@ -228,7 +228,6 @@ statement_numbers rules =
 pub record WellFormedRules (rules : RuleFile) : Type 0 where
   pub version : (nat_eq rules.version 1 || nat_eq rules.version 2) ≡ true
   pub selects_of_version : rules.version ≡ 1 → rules.selects ≡ []
-
   -- the first statement of version 2 says the version
   pub after_version : rules.version ≡ 2 → list_all (nat_lt 1) (statement_numbers rules) ≡ true
   pub numbers_differ : differ nat_eq (statement_numbers rules) ≡ true

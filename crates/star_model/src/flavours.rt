@@ -5,7 +5,8 @@ ghost use Rattle.star_model.specs.FlavourWords.{flavour_word, which_word, kind_w
 
 use crate::rules::{Class, Flavour, Kind, Which};
 
-const FLAVOURS: [Flavour; 12] = [
+/// The operators in the order of their table.
+pub const FLAVOURS: [Flavour; 12] = [
     Flavour::AccessHeap,
     Flavour::AccessIndex,
     Flavour::Get,

@@ -1,6 +1,6 @@
 // Small types over a vector, which contracts see as lists.
 
-ghost use Rattle.std.specs.Prelude.{◌≡◌, [], ◌∷◌, ◌++◌, length, IfOk, OnOk, OnErr};
+ghost use Rattle.std.specs.Prelude.{◌≡◌, ◌<◌, ◌↔◌, [], ◌∷◌, ◌++◌, length, slice_set, slice_index_or, IsSome, IfSome, IfOk, OnOk, OnErr};
 
 use std::alloc::{AllocError, Global};
 use std::marker::Model;
@@ -23,6 +23,9 @@ impl<T> Model for List<T> {
 }
 
 impl<T> List<T> {
+    ghost use Rattle.std.specs.Borrow.{LendsIf, sem};
+    ghost use Rattle.star_model.specs.contracts.lists.List.{the_row};
+
     /// The empty list. It takes no memory.
     pub fn new(alloc: Global) -> List<T>
         ensures { result ≡ [] }
@@ -42,6 +45,15 @@ impl<T> List<T> {
         ensures { result.now ≡ self.now }
     {
         self.items.as_slice()
+    }
+
+    /// The item at this position, to be changed in place, if there is one.
+    pub fn get_mut(&mut self, at: usize) -> Option<&mut T>
+        ensures* writes_back { sem 𝓛 (LendsIf (the_row T.row) T.row self.entry result (λ item. slice_set self.entry.now at item) self.entry.now) }
+        ensures variant { IsSome result ↔ (at < length self.old) }
+        ensures value { IfSome result (λ item. item.now ≡ slice_index_or self.old at item.now) }
+    {
+        self.items.get_mut(at)
     }
 }
 

@@ -13,7 +13,9 @@ ghost use Rattle.star_model.specs.Costs.{row_of, formula_of, costs_of, same_flav
 ghost use Rattle.star_model.specs.Vectors.{begins, is_better, same_column, same_numbers};
 ghost use Rattle.star_model.specs.Requirements.{satisfies};
 ghost use Rattle.star_model.specs.Canon.{ColPair, AreEqual, is_lower, least_equal, canon};
-ghost use Rattle.star_model.specs.Answers.{Data, Assignment, IsAnswer, is_earlier};
+ghost use Rattle.star_model.specs.Answers.{Data, Assignment, IsAnswer, is_earlier, is_same, makes_true, values_of_columns};
+ghost use Rattle.star_model.specs.Operators.{step, may_apply, each_touches, unpriced};
+ghost use Rattle.star_model.specs.Predicates.{preds_in};
 ghost use Rattle.star_model.specs.Exchange.{HasCard, IsExchangeable, ChainsAreExchangeable};
 ghost use Rattle.star_model.specs.Kinds.{MeansItsKind, kind_of, kind_of_range, kind_of_value};
 ghost use Rattle.star_model.specs.Meaning.{meaning, as_stream, member_at, members_of};
@@ -25,10 +27,14 @@ ghost use Rattle.star_model.specs.Goals.{is_target};
 ghost use Rattle.star_model.specs.Derivations.{plan_of, is_valid, HasVector, IsRoot};
 ghost use Rattle.star_model.specs.Judging.{Vector, judge, judge_root, invalid_number};
 ghost use Rattle.star_model.specs.InvalidNodes.{first_invalid};
+ghost use Rattle.std.specs.Cmp.Lexicographic.{slice_cmp};
+ghost use Rattle.std.specs.declared.cmp.Ordering.{Ordering};
+ghost use Rattle.star_model.specs.declared.catalogue.Value.{Value};
 ghost use Rattle.star_model.specs.declared.columns.Col.{Col};
 ghost use Rattle.star_model.specs.declared.costs.CostEntry.{CostEntry};
 ghost use Rattle.star_model.specs.declared.formula.Formula.{Formula};
 ghost use Rattle.star_model.specs.declared.query.Query.{Query};
+ghost use Rattle.star_model.specs.declared.plans.Op.{Op};
 ghost use Rattle.star_model.specs.declared.plans.Plan.{Plan};
 ghost use Rattle.star_model.specs.declared.plans.Props.{Props};
 ghost use Rattle.star_model.specs.declared.plans.Require.{Require};
@@ -203,6 +209,13 @@ pub fn operators_have_rows_of_their_own()
     ensures same { (f g : Flavour) → same_flavour f g ≡ true → f ≡ g }
 {}
 
+/// The vector of an operator over inputs is that of its row of the table, but for its costs; there is one only where the operator is
+/// applicable, and each predicate that it applies touches its tables.
+pub fn vectors_go_by_the_table()
+    ensures { (q : Query) (costs : Seq CostEntry) (o : Op) (ins : Seq Props) (r : Props) → step q costs o ins ≡ Some r
+        → (may_apply q o ins ≡ true) × (each_touches q o ins ≡ true) × (r ≡ record (unpriced q o ins) { cost = r.cost; rescan = r.rescan }) }
+{}
+
 /// In one query the tables and predicates of a plan fix its number of rows.
 pub fn plans_have_the_estimate()
     ensures { (q : Query) (costs : Seq CostEntry) (p : Plan) (v : Props) → vector q costs p ≡ Some v → HasCard q v }
@@ -229,6 +242,17 @@ pub fn canonical_orders_sort_alike()
         → is_earlier q data_ (canon q preds s cols) a b ≡ is_earlier q data_ cols a b }
     ensures sorted { (q : Query) (data_ : Data) (s preds : ℕ) → s < 2 ^ 32 → (outer : Assignment) (cols : Seq Col) (list : Seq Assignment) → All (IsAnswer q data_ s preds outer) list
         → IsSortedBy (is_earlier q data_ (canon q preds s cols)) list ↔ IsSortedBy (is_earlier q data_ cols) list }
+
+    // So do any two that make the predicates true, by any comparison of values.
+    ensures compared { (q : Query) (data_ : Data) (s : ℕ) (compare : Value → Value → Ordering) (preds : ℕ) (cols : Seq Col) (a b : Assignment)
+        → list_all (makes_true q data_ a) (preds_in q preds) ≡ true → list_all (makes_true q data_ b) (preds_in q preds) ≡ true
+        → slice_cmp compare (values_of_columns q data_ (canon q preds s cols) a) (values_of_columns q data_ (canon q preds s cols) b)
+        ≡ slice_cmp compare (values_of_columns q data_ cols a) (values_of_columns q data_ cols b) }
+{}
+
+/// Values that the test finds the same are one.
+pub fn values_that_are_the_same_are_one()
+    ensures { (v w : Value) → is_same v w ≡ true → v ≡ w }
 {}
 
 /// The canonical form of a prefix is a prefix of the canonical form; and where more equalities hold, the canonical form of a canonical
@@ -237,6 +261,11 @@ pub fn canonical_orders_keep_prefixes()
     ensures prefix { (q : Query) (preds s : ℕ) (xs ys : Seq Col) → begins xs ys ≡ true → begins (canon q preds s xs) (canon q preds s ys) ≡ true }
     ensures again { (q : Query) (preds more s t : ℕ) → ((n : ℕ) → has preds n ≡ true → has more n ≡ true) → ((n : ℕ) → has s n ≡ true → has t n ≡ true)
         → (cols : Seq Col) → canon q more t (canon q preds s cols) ≡ canon q more t cols }
+{}
+
+/// The canonical form of columns of a set's quantifiers has columns of these alone.
+pub fn canonical_orders_keep_to_their_tables()
+    ensures { (q : Query) (preds s : ℕ) (cols : Seq Col) → list_all (λ c. has s c.quant.0) cols ≡ true → list_all (λ c. has s c.quant.0) (canon q preds s cols) ≡ true }
 {}
 
 /// A well-kinded expression means a value of its kind.

@@ -12,7 +12,7 @@ use Rattle.star_model.specs.declared.costs.CostEntry.{CostEntry}
 use Rattle.star_model.specs.declared.plans.Op.{Op}
 use Rattle.star_model.specs.declared.query.Query.{Query}
 use Rattle.star_model.specs.declared.rules.Flavour.{Flavour}
-use Rattle.star_model.specs.declared.rules.Flavour.TheVariants.{AccessHeap, AccessIndex, Get, Filter, Sort, Store, Ship, Probe, JoinNl, JoinMerge, JoinHash}
+use Rattle.star_model.specs.declared.rules.Flavour.TheVariants.{AccessHeap, AccessIndex, Get, Filter, Sort, Store, Ship, Probe, JoinNl, JoinMerge, JoinHash, Intersect}
 use Rattle.star_model.specs.declared.rules.PlanExpr.{PlanExpr}
 use Rattle.star_model.specs.declared.rules.ValueExpr.{ValueExpr}
 use Rattle.star_model.specs.declared.rules.RuleFile.{RuleFile}
@@ -35,6 +35,7 @@ its_flavour Probe vs = refl
 its_flavour JoinNl vs = refl
 its_flavour JoinMerge vs = refl
 its_flavour JoinHash vs = refl
+its_flavour Intersect vs = refl
 
 -- What the code made with these costs and this operator, with the costs of the file and the flavour of the operator. P says what was made
 -- of them.

@@ -90,5 +90,6 @@ pub fn operator(flavour: Flavour, args: &[ValueExpr], env: &Env, query: &Query) 
             merge: preds_of(&first),
             preds: preds_of(&argument(args, 1, env, query)),
         },
+        Flavour::Intersect => Op::Intersect,
     }
 }

@@ -2,7 +2,7 @@
 use Rattle.std.proofs.Common.{◌≡◌, [], ◌∷◌, Option, None, Some, Result, Ok, Err, arith, refl, subst, string_bytes}
 use Rattle.std.proofs.lemmas.List.{append-nil}
 use Rattle.sb_outside.specs.Counts.{Rose, RoseAtMost}
-use Rattle.sb_outside.specs.Shelf.{ShelfState}
+use Rattle.sb_outside.specs.Shelf.{ShelfState, GoesBy}
 use Rattle.sb_outside.specs.Sink.{SinkState, Adds, AddsPrefix}
 use Rattle.stars_core.specs.declared.command.Command.{Command}
 use Rattle.stars_core.specs.declared.refusal.TextKind.TheVariants.{Rules, Catalogue, Query, Derivation}
@@ -34,11 +34,13 @@ answered_at words (Refused Derivation line) (Some command) shelf shelf' out err 
 answered_at words (NotDerived line) (Some command) shelf shelf' out err err' is composed put = (refl, string_bytes line, rw is composed.1, put)
 answered_at words Memory (Some command) shelf shelf' out err err' is composed put = (refl, line_of Memory, (rw is refl, refl), put)
 
--- no more files are asked for than the command has
-pub calls_kept : (words : CommandLine) (command : Option Command) (shelf shelf' : ShelfState) (result : Result Answer Refusal)
-    → Composed shelf shelf' words command result → RoseAtMost (calls_of words command) shelf.calls shelf'.calls
-calls_kept words None shelf shelf' result composed = let same = composed.0 in rw same (record { kept = omega arith; bound = omega arith })
-calls_kept words (Some command) shelf shelf' result composed = let by = composed.0 in by.calls
+-- what the shelf holds stays, no count falls, and no more files are asked for than the command has
+pub shelf_kept : (words : CommandLine) (command : Option Command) (shelf shelf' : ShelfState) (result : Result Answer Refusal)
+    → Composed shelf shelf' words command result → GoesBy (calls_of words command) shelf shelf'
+shelf_kept words None shelf shelf' result composed =
+    let same = composed.0 in
+    rw same (record { held = refl; calls = record { kept = omega arith; bound = omega arith }; faults = omega arith; taken = omega arith })
+shelf_kept words (Some command) shelf shelf' result composed = composed.0
 
 -- all was put out
 pub output_at : (ending : Ending) (words : CommandLine) (command : Option Command) (shelf shelf' : ShelfState) (out out' err : SinkState) (answer : Answer)

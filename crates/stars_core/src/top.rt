@@ -1,6 +1,7 @@
 // The top call.
-ghost use Rattle.std.specs.Prelude.{◌≡◌, ◌↔◌, ◌⊎◌, ◌<◌, None, OnOk, OnErr};
+ghost use Rattle.std.specs.Prelude.{◌≡◌, ◌↔◌, ◌⊎◌, ◌<◌, ◌≤◌, None, OnOk, OnErr};
 ghost use Rattle.sb_outside.specs.Counts.{Rose, RoseAtMost};
+ghost use Rattle.sb_outside.specs.Shelf.{GoesBy};
 ghost use Rattle.sb_outside.specs.Sink.{Adds, AddsPrefix};
 ghost use Rattle.stars_core.specs.CommandLine.{bytes_of, command_of};
 ghost use Rattle.stars_core.specs.Answers.{Answered, Complete, RefusedExactly, LinePut, calls_of};
@@ -11,7 +12,8 @@ use sb_outside::{Shelf, Sink, SinkFault};
 use std::alloc::Global;
 
 fn tell<E: Sink>(err: &mut E, line: &str)
-    ensures { LinePut (E.state err.old) (E.state err.new) line.now }
+    ensures told { LinePut (E.state err.old) (E.state err.new) line.now }
+    ensures kept { (E.state err.old).faults ≤ (E.state err.new).faults }
 {
     match err.put(line.as_bytes()) {
         Ok(()) => {}
@@ -26,6 +28,7 @@ fn emit<O: Sink>(out: &mut O, answer: &Answer) -> Result<(), SinkFault>
     ensures no_fault { OnOk result ((O.state out.new).faults ≡ (O.state out.old).faults) }
     ensures part { OnErr result (AddsPrefix (O.state out.old).taken answer.now.text.items (O.state out.new).taken) }
     ensures failed { OnErr result (Rose (O.state out.old).faults (O.state out.new).faults) }
+    ensures kept { (O.state out.old).faults ≤ (O.state out.new).faults }
 {
     out.put(answer.text.as_slice())
 }
@@ -42,11 +45,12 @@ pub fn stars<S: Shelf, O: Sink, E: Sink>(
     ensures answer { Answered result (bytes_of words.now) (S.state shelf.old) (S.state shelf.new) (O.state out.old) (O.state out.new) (E.state err.old) (E.state err.new) }
     ensures complete { Complete result (bytes_of words.now) (S.state shelf.old) (S.state shelf.new) (O.state out.old) (O.state out.new) }
     ensures refused { RefusedExactly result (bytes_of words.now) (S.state shelf.old) (S.state shelf.new) (E.state err.old) (E.state err.new) }
-    ensures calls { RoseAtMost (calls_of (bytes_of words.now) (command_of (bytes_of words.now))) (S.state shelf.old).calls (S.state shelf.new).calls }
+    ensures shelf { GoesBy (calls_of (bytes_of words.now) (command_of (bytes_of words.now))) (S.state shelf.old) (S.state shelf.new) }
     ensures read_faults { (S.state shelf.old).faults < (S.state shelf.new).faults → (result ≡ Status.ReadFault) ⊎ (result ≡ Status.Memory) }
     ensures write_faults { (O.state out.old).faults < (O.state out.new).faults → result ≡ Status.WriteFault }
     ensures puts { RoseAtMost 1 (O.state out.old).puts (O.state out.new).puts }
     ensures lines { RoseAtMost 1 (E.state err.old).puts (E.state err.new).puts }
+    ensures kept { ((O.state out.old).faults ≤ (O.state out.new).faults) × ((E.state err.old).faults ≤ (E.state err.new).faults) }
 {
     match compose(alloc, words, shelf) {
         Ok(answer) => match emit(out, &answer) {

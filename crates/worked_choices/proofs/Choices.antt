@@ -1,12 +1,11 @@
 -- Which of the three cost least, and which are on the frontier.
-use Rattle.std.proofs.Common.{◌≡◌, ℕ, ◌≤◌, Bool, true, false, List, [], ◌∷◌, Option, Some, None, refl, ap, sym, subst, ◌∙◌, arith, inl, inr}
+use Rattle.std.proofs.Common.{◌≡◌, ◌≤◌, Bool, true, false, List, [], ◌∷◌, Some, refl, ap, sym, subst, ◌∙◌, arith, inl, inr}
 use Rattle.std.specs.Prelude.{option_and_then}
 use Rattle.star_model.specs.Costs.{costs_of}
 use Rattle.star_model.specs.Derivations.{HasVector, IsRoot, IsLeast, IsOfGoal, OnFrontier}
-use Rattle.star_model.specs.Expected.{Expected, ForQuery, ForGoal, root_requirement, query_goal}
-use Rattle.star_model.specs.Judging.{Judgement, Vector, judge}
+use Rattle.star_model.specs.Expected.{Expected, ForGoal, root_requirement, query_goal}
+use Rattle.star_model.specs.Judging.{Vector, judge}
 use Rattle.star_model.specs.Plans.{is_chain, vector, chain_over}
-use Rattle.star_model.specs.Predicates.{all_quants}
 use Rattle.star_model.specs.Sets.{set_of, places}
 use Rattle.star_model.specs.Vectors.{is_better}
 use Rattle.star_model.specs.declared.derivations.Deriv.{Deriv}
@@ -69,7 +68,7 @@ cheap_is_underived on = go (no_other (record read_alone { cost = 1 }) on.of_goal
 
 -- ---- the least cost
 
-no_chain : (chain : List GlueOp) → is_chain (root_requirement query) chain ≡ true → chain ≡ []
+pub no_chain : (chain : List GlueOp) → is_chain (root_requirement query) chain ≡ true → chain ≡ []
 unfolding is_chain
 no_chain [] h = refl
 no_chain (word.Sort ∷ chain) h = cc

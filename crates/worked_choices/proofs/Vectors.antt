@@ -1,5 +1,5 @@
 -- What the operators of the rules make, computed.
-use Rattle.std.proofs.Common.{◌≡◌, ℕ, Bool, true, false, [], ◌∷◌, Option, Some, None, refl, codes}
+use Rattle.std.proofs.Common.{◌≡◌, true, false, [], ◌∷◌, Some, None, refl, codes}
 use Rattle.star_model.specs.Cardinality.{card}
 use Rattle.star_model.specs.Canon.{canon, least_equal}
 use Rattle.star_model.specs.Costs.{costs_of, formula_of}
@@ -12,7 +12,7 @@ use Rattle.star_model.specs.Predicates.{used, eligible, crossing}
 use Rattle.star_model.specs.Requirements.{satisfies}
 use Rattle.star_model.specs.Sets.{set_of, has, members, single, union, meet, minus, is_within, places}
 use Rattle.star_model.specs.Vectors.{begins, is_better}
-use Rattle.star_model.specs.Expected.{Expected, ForQuery, ForGoal, leaf_of, unary_of, binary_of}
+use Rattle.star_model.specs.Expected.{ForQuery, ForGoal, leaf_of, unary_of, binary_of}
 use Rattle.star_model.specs.DerivCases.{Goal, Reference, Unary}
 use Rattle.star_model.specs.declared.derivations.Deriv.{Deriv}
 use Rattle.star_model.specs.declared.derivations.Deriv.TheVariants.{Leaf}

@@ -118,13 +118,13 @@ catalogue c small names sites tables indexes =
 
 -- the numbers of quantifiers, columns and predicates
 abbrev is_short : Query → Bool
-is_short q = is_some_of 8 q.quants && (is_some_of 64 q.select && (nat_le (length q.preds) 16 && nat_le (length q.order) 16))
+is_short q = is_some_of 12 q.quants && (is_some_of 64 q.select && (nat_le (length q.preds) 16 && nat_le (length q.order) 16))
 
 -- each name means something
 abbrev is_resolved : Query → Bool
 is_resolved q =
     list_all (λ d. nat_lt d.table (length q.catalogue.tables)) q.quants
-    && (list_all (λ d. nat_le (length d.name) 64) q.quants
+    && (list_all (λ d. is_name d.name) q.quants
     && (differ same_numbers (map (λ d. d.name) q.quants)
     && (list_all (is_there q) q.select
     && (list_all (is_there q) q.order
@@ -150,12 +150,12 @@ query q formed short resolved typed =
     let j = both _ _ typed in
     let k = both _ _ j.1 in record {
       catalogue = formed;
-      some_quantifiers = some_of 8 q.quants a.0;
+      some_quantifiers = some_of 12 q.quants a.0;
       some_columns = some_of 64 q.select b.0;
       few_predicates = leb-true (length q.preds) 16 c.0;
       few_in_order = leb-true (length q.order) 16 c.1;
       tables = d.0;
-      short_names = f.0;
+      names = f.0;
       quantifiers_differ = g.0;
       select = h.0;
       order = i.0;

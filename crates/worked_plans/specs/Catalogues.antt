@@ -67,6 +67,13 @@ t_filled = record {
   indexes = [];
 }
 
+abbrev pub two_indexes : Catalogue
+two_indexes = record {
+  sites = (record { name = codes "hq"; cpu = 1; net = 1 } ∷ []);
+  tables = (record { name = codes "p"; site = record { 0 = 0 }; rows = 1000; pages = 100; file = codes "p.csv"; columns = (record { name = codes "id"; kind = type.Int; width = 8; distinct = 1000 } ∷ record { name = codes "a"; kind = type.Int; width = 8; distinct = 10 } ∷ record { name = codes "b"; kind = type.Int; width = 8; distinct = 20 } ∷ []) } ∷ []);
+  indexes = (record { name = codes "pa"; table = 0; columns = (1 ∷ []); pages = 10 } ∷ record { name = codes "pb"; table = 0; columns = (2 ∷ []); pages = 10 } ∷ []);
+}
+
 abbrev pub two_sites : Catalogue
 two_sites = record {
   sites = (record { name = codes "a"; cpu = 1; net = 1 } ∷ record { name = codes "b"; cpu = 5; net = 1 } ∷ []);

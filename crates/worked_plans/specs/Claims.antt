@@ -9,6 +9,7 @@ use Rattle.star_model.specs.Canon.{canon}
 use Rattle.star_model.specs.Requirements.{satisfies}
 use Rattle.star_model.specs.Vectors.{is_better}
 use Rattle.star_model.specs.Cardinality.{card}
+use Rattle.star_model.specs.Selectivity.{selects_of, weighed}
 use Rattle.star_model.specs.Costs.{costs_of}
 use Rattle.star_model.specs.Operators.{step}
 use Rattle.star_model.specs.Plans.{is_chain}
@@ -17,7 +18,7 @@ use Rattle.star_model.specs.Expected.{ForGoal}
 use Rattle.star_model.specs.Judging.{Judgement, Vector, FirstInvalid, judge, judge_root}
 use Rattle.star_model.specs.Kinds.{kind_of, kind_of_range, is_kinded}
 use Rattle.star_model.specs.declared.rules.Kind.{Kind}
-use Rattle.star_model.specs.Accepted.{is_unknown, is_star_twice, is_formula_twice, has_wrong_arity, has_wrong_kind, lacks_root, lacks_formula, height_of, weight_of}
+use Rattle.star_model.specs.Accepted.{is_unknown, is_star_twice, is_formula_twice, is_select_twice, has_wrong_arity, has_wrong_kind, lacks_root, lacks_formula, height_of, weight_of}
 use Rattle.star_model.specs.declared.faults.RuleFault.{RuleFault}
 use Rattle.star_model.specs.declared.faults.RuleFault.TheVariants as fault
 use Rattle.star_model.specs.declared.faults.Root.TheVariants as root
@@ -44,6 +45,14 @@ use Rattle.star_model.specs.declared.derivations.Deriv.{Deriv}
 abbrev pub numbers_in : Judgement → Option (ℕ × ℕ × ℕ)
 numbers_in (Vector v) = Some (v.cost, v.rescan, v.card)
 numbers_in (FirstInvalid node) = None
+
+-- the query, each predicate with the selectivity that the rules give
+abbrev pub by : Query → RuleFile → Query
+by query rules = weighed (selects_of rules) query
+
+-- each predicate of the query has the selectivity that it has where no rule file gives one
+abbrev pub HasUsualSelectivities : Query → Type 0
+HasUsualSelectivities query = (map (λ p. p.num) (weighed [] query).preds ≡ map (λ p. p.num) query.preds) × (map (λ p. p.den) (weighed [] query).preds ≡ map (λ p. p.den) query.preds)
 
 -- it is a root derivation of the query under the rules, with these numbers
 abbrev pub HasNumbers : Query → RuleFile → Deriv → ℕ → ℕ → ℕ → Type 0
@@ -86,7 +95,7 @@ AreKinded bound rows = map (λ row. is_kinded bound row.0) rows ≡ map (λ row.
 abbrev pub flavours : List Flavour
 flavours =
     flavour.AccessHeap ∷ flavour.AccessIndex ∷ flavour.Get ∷ flavour.Filter ∷ flavour.Sort ∷ flavour.Store ∷ flavour.Ship ∷ flavour.Probe
-    ∷ flavour.JoinNl ∷ flavour.JoinMerge ∷ flavour.JoinHash ∷ []
+    ∷ flavour.JoinNl ∷ flavour.JoinMerge ∷ flavour.JoinHash ∷ flavour.Intersect ∷ []
 
 -- the first of those that are there
 abbrev pub first_of : List (Option RuleFault) → Option RuleFault
@@ -105,7 +114,7 @@ module _ (rules : RuleFile) where
 
   abbrev pub first_twice : Option RuleFault
   first_twice = option_map fault.Twice
-      (least (map (λ s. s.statement) (filter (is_star_twice rules) rules.stars) ++ map (λ d. d.statement) (filter (is_formula_twice rules) rules.formulas)))
+      (least (map (λ s. s.statement) (filter (is_star_twice rules) rules.stars) ++ map (λ d. d.statement) (filter (is_formula_twice rules) rules.formulas) ++ map (λ d. d.statement) (filter (is_select_twice rules) rules.selects)))
 
   abbrev pub not_monotone : FormulaDef → RuleFault
   not_monotone d = fault.NotMonotone d.flavour d.which (unwrap_or (first_offending d.formula) 0)
@@ -130,7 +139,7 @@ HasFault rules fault = first_fault rules ≡ Some fault
 abbrev pub HasNoFault : RuleFile → Type 0
 HasNoFault rules = first_fault rules ≡ None
 
--- the variables in their order, from 1 to 15
+-- the variables in their order, from 1 to 19
 abbrev pub counting : Vars
 counting = record {
   cost1 = 1;
@@ -148,6 +157,10 @@ counting = record {
   preds = 13;
   cpu = 14;
   net = 15;
+  distinct1 = 16;
+  rows1 = 17;
+  distinct2 = 18;
+  rows2 = 19;
 }
 
 -- what formulas are worth, beside what they are to be worth

@@ -10,6 +10,9 @@ use Rattle.star_model.specs.declared.rules.Flavour.TheVariants as flavour
 abbrev pub alternative_beyond : Deriv
 alternative_beyond = (d.Glue [] (d.Goal (record { tables = 1; pushed = 0 }) None (d.Reference (codes "AccessRoot") 2 [] (derivation.Leaf flavour.AccessHeap))))
 
+abbrev pub both_indexes : Deriv
+both_indexes = (d.Glue [] (d.Goal (record { tables = 1; pushed = 0 }) None (d.Reference (codes "AccessRoot") 1 [] (d.Reference (codes "Paths") 3 (1 ∷ 2 ∷ []) (d.Unary flavour.Get (d.Binary flavour.Intersect (derivation.Leaf flavour.AccessIndex) (derivation.Leaf flavour.AccessIndex)))))))
+
 abbrev pub both_stored : Deriv
 both_stored = (d.Glue [] (d.Goal (record { tables = 3; pushed = 0 }) (Some (1, 2)) (d.Reference (codes "JoinRoot") 1 [] (d.Binary flavour.JoinNl (d.Glue [] (d.Goal (record { tables = 1; pushed = 0 }) None (d.Reference (codes "AccessRoot") 2 [] (d.Unary flavour.Store (derivation.Leaf flavour.AccessHeap))))) (d.Glue [] (d.Goal (record { tables = 2; pushed = 0 }) None (d.Reference (codes "AccessRoot") 2 [] (d.Unary flavour.Store (derivation.Leaf flavour.AccessHeap)))))))))
 
@@ -109,6 +112,9 @@ not_pushed = (d.Glue [] (d.Goal (record { tables = 3; pushed = 0 }) (Some (1, 2)
 abbrev pub not_shipped : Deriv
 not_shipped = (d.Glue (glue.Sort ∷ []) (d.Goal (record { tables = 1; pushed = 0 }) None (d.Reference (codes "AccessRoot") 1 [] (derivation.Leaf flavour.AccessHeap))))
 
+abbrev pub one_index_twice : Deriv
+one_index_twice = (d.Glue [] (d.Goal (record { tables = 1; pushed = 0 }) None (d.Reference (codes "AccessRoot") 1 [] (d.Reference (codes "Paths") 3 (1 ∷ 1 ∷ []) (d.Unary flavour.Get (d.Binary flavour.Intersect (derivation.Leaf flavour.AccessIndex) (derivation.Leaf flavour.AccessIndex)))))))
+
 abbrev pub other_access : Deriv
 other_access = (d.Glue [] (d.Goal (record { tables = 1; pushed = 0 }) None (d.Reference (codes "AccessRoot") 1 [] (derivation.Leaf flavour.AccessIndex))))
 
@@ -192,6 +198,9 @@ stored_without_need = (d.Glue (glue.Store ∷ []) (d.Goal (record { tables = 1; 
 
 abbrev pub thousand_rows : Deriv
 thousand_rows = (d.Glue [] (d.Goal (record { tables = 1; pushed = 0 }) None (d.Reference (codes "AccessRoot") 1 [] (derivation.Leaf flavour.AccessHeap))))
+
+abbrev pub twice_as_frequent : Deriv
+twice_as_frequent = (d.Glue [] (d.Goal (record { tables = 1; pushed = 0 }) None (d.Reference (codes "AccessRoot") 1 [] (derivation.Leaf flavour.AccessHeap))))
 
 abbrev pub unsorted : Deriv
 unsorted = (d.Glue [] (d.Goal (record { tables = 1; pushed = 0 }) None (d.Reference (codes "AccessRoot") 1 [] (derivation.Leaf flavour.AccessHeap))))

@@ -8,3 +8,4 @@ pub mod Values
 pub mod Operators
 pub mod Kinds
 pub mod Tables
+pub mod WordRows

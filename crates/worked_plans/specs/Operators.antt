@@ -153,6 +153,27 @@ f_of_colleagues_under_standard = record { tables = 4; cols = (0 ∷ 0 ∷ 2 ∷ 
 abbrev pub pairs_of_colleagues_under_standard : Props
 pairs_of_colleagues_under_standard = record { tables = 3; cols = (1 ∷ 3 ∷ 0 ∷ 0 ∷ 0 ∷ 0 ∷ 0 ∷ 0 ∷ 0 ∷ 0 ∷ 0 ∷ 0 ∷ []); preds = 1; order = (record { quant = record { 0 = 0 }; column = 0 } ∷ []); site = record { 0 = 0 }; temp = false; path = []; card = 1000; cost = 2280; rescan = 2280 }
 
+abbrev pub by_a_of_two_indexes_under_intersect : Props
+by_a_of_two_indexes_under_intersect = record { tables = 1; cols = (2 ∷ 0 ∷ 0 ∷ 0 ∷ 0 ∷ 0 ∷ 0 ∷ 0 ∷ 0 ∷ 0 ∷ 0 ∷ 0 ∷ []); preds = 1; order = (record { quant = record { 0 = 0 }; column = 1 } ∷ []); site = record { 0 = 0 }; temp = false; path = []; card = 100; cost = 120; rescan = 120 }
+
+abbrev pub by_b_of_two_indexes_under_intersect : Props
+by_b_of_two_indexes_under_intersect = record { tables = 1; cols = (4 ∷ 0 ∷ 0 ∷ 0 ∷ 0 ∷ 0 ∷ 0 ∷ 0 ∷ 0 ∷ 0 ∷ 0 ∷ 0 ∷ []); preds = 2; order = (record { quant = record { 0 = 0 }; column = 2 } ∷ []); site = record { 0 = 0 }; temp = false; path = []; card = 50; cost = 65; rescan = 65 }
+
+abbrev pub both_of_two_indexes_under_intersect : Props
+both_of_two_indexes_under_intersect = record { tables = 1; cols = (6 ∷ 0 ∷ 0 ∷ 0 ∷ 0 ∷ 0 ∷ 0 ∷ 0 ∷ 0 ∷ 0 ∷ 0 ∷ 0 ∷ []); preds = 3; order = (record { quant = record { 0 = 0 }; column = 1 } ∷ []); site = record { 0 = 0 }; temp = false; path = []; card = 5; cost = 335; rescan = 335 }
+
+abbrev pub dept_of_cities_under_intersect : Props
+dept_of_cities_under_intersect = record { tables = 1; cols = (3 ∷ 0 ∷ 0 ∷ 0 ∷ 0 ∷ 0 ∷ 0 ∷ 0 ∷ 0 ∷ 0 ∷ 0 ∷ 0 ∷ []); preds = 0; order = []; site = record { 0 = 0 }; temp = false; path = []; card = 10; cost = 20; rescan = 20 }
+
+abbrev pub emp_of_cities_under_intersect : Props
+emp_of_cities_under_intersect = record { tables = 2; cols = (0 ∷ 3 ∷ 0 ∷ 0 ∷ 0 ∷ 0 ∷ 0 ∷ 0 ∷ 0 ∷ 0 ∷ 0 ∷ 0 ∷ []); preds = 0; order = []; site = record { 0 = 0 }; temp = false; path = []; card = 1000; cost = 2000; rescan = 2000 }
+
+abbrev pub pushed_of_cities_under_intersect : Props
+pushed_of_cities_under_intersect = record { tables = 2; cols = (0 ∷ 3 ∷ 0 ∷ 0 ∷ 0 ∷ 0 ∷ 0 ∷ 0 ∷ 0 ∷ 0 ∷ 0 ∷ 0 ∷ []); preds = 1; order = (record { quant = record { 0 = 1 }; column = 1 } ∷ record { quant = record { 0 = 1 }; column = 0 } ∷ []); site = record { 0 = 0 }; temp = false; path = []; card = 100; cost = 130; rescan = 130 }
+
+abbrev pub joined_of_cities_under_intersect : Props
+joined_of_cities_under_intersect = record { tables = 3; cols = (3 ∷ 3 ∷ 0 ∷ 0 ∷ 0 ∷ 0 ∷ 0 ∷ 0 ∷ 0 ∷ 0 ∷ 0 ∷ 0 ∷ []); preds = 1; order = []; site = record { 0 = 0 }; temp = false; path = []; card = 1000; cost = 1320; rescan = 1320 }
+
 abbrev pub access_heap_of_cities_under_standard : List (Op × List Props × Option Props)
 access_heap_of_cities_under_standard =
     ((op.AccessHeap 1 0), [], Some (dept_of_cities_under_standard))
@@ -774,4 +795,39 @@ abbrev pub canon_of_colleagues_under_standard : List (List Col × ℕ × ℕ × 
 canon_of_colleagues_under_standard =
     ((record { quant = record { 0 = 2 }; column = 1 } ∷ record { quant = record { 0 = 1 }; column = 1 } ∷ record { quant = record { 0 = 0 }; column = 0 } ∷ []), 3, 7, (record { quant = record { 0 = 0 }; column = 0 } ∷ []))
     ∷ ((record { quant = record { 0 = 2 }; column = 1 } ∷ record { quant = record { 0 = 0 }; column = 0 } ∷ []), 2, 7, (record { quant = record { 0 = 1 }; column = 1 } ∷ record { quant = record { 0 = 0 }; column = 0 } ∷ []))
+    ∷ []
+
+abbrev pub access_index_of_two_indexes_under_intersect : List (Op × List Props × Option Props)
+access_index_of_two_indexes_under_intersect =
+    ((op.AccessIndex 1 0 1), [], Some (by_a_of_two_indexes_under_intersect))
+    ∷ ((op.AccessIndex 1 1 2), [], Some (by_b_of_two_indexes_under_intersect))
+    ∷ []
+
+abbrev pub intersect_of_two_indexes_under_intersect : List (Op × List Props × Option Props)
+intersect_of_two_indexes_under_intersect =
+    ((op.Intersect), (by_a_of_two_indexes_under_intersect ∷ by_b_of_two_indexes_under_intersect ∷ []), Some (both_of_two_indexes_under_intersect))
+    ∷ ((op.Intersect), (by_b_of_two_indexes_under_intersect ∷ by_a_of_two_indexes_under_intersect ∷ []), Some ((record both_of_two_indexes_under_intersect { order = (record { quant = record { 0 = 0 }; column = 2 } ∷ []) })))
+    ∷ ((op.Intersect), (by_a_of_two_indexes_under_intersect ∷ by_a_of_two_indexes_under_intersect ∷ []), Some ((record by_a_of_two_indexes_under_intersect { cost = 440; rescan = 440 })))
+    ∷ ((op.Intersect), (by_a_of_two_indexes_under_intersect ∷ both_of_two_indexes_under_intersect ∷ []), Some ((record both_of_two_indexes_under_intersect { cost = 560; rescan = 560 })))
+    ∷ []
+
+abbrev pub get_of_two_indexes_under_intersect : List (Op × List Props × Option Props)
+get_of_two_indexes_under_intersect =
+    ((op.Get 1 0), (both_of_two_indexes_under_intersect ∷ []), Some (record { tables = 1; cols = (7 ∷ 0 ∷ 0 ∷ 0 ∷ 0 ∷ 0 ∷ 0 ∷ 0 ∷ 0 ∷ 0 ∷ 0 ∷ 0 ∷ []); preds = 3; order = (record { quant = record { 0 = 0 }; column = 1 } ∷ []); site = record { 0 = 0 }; temp = false; path = []; card = 5; cost = 385; rescan = 385 }))
+    ∷ []
+
+abbrev pub access_heap_of_cities_under_intersect : List (Op × List Props × Option Props)
+access_heap_of_cities_under_intersect =
+    ((op.AccessHeap 1 0), [], Some (dept_of_cities_under_intersect))
+    ∷ ((op.AccessHeap 2 0), [], Some (emp_of_cities_under_intersect))
+    ∷ []
+
+abbrev pub intersect_of_cities_under_intersect : List (Op × List Props × Option Props)
+intersect_of_cities_under_intersect =
+    ((op.Intersect), (dept_of_cities_under_intersect ∷ emp_of_cities_under_intersect ∷ []), None)
+    ∷ ((op.Intersect), (dept_of_cities_under_intersect ∷ joined_of_cities_under_intersect ∷ []), None)
+    ∷ ((op.Intersect), (joined_of_cities_under_intersect ∷ joined_of_cities_under_intersect ∷ []), None)
+    ∷ ((op.Intersect), (emp_of_cities_under_intersect ∷ pushed_of_cities_under_intersect ∷ []), Some (record { tables = 2; cols = (0 ∷ 3 ∷ 0 ∷ 0 ∷ 0 ∷ 0 ∷ 0 ∷ 0 ∷ 0 ∷ 0 ∷ 0 ∷ 0 ∷ []); preds = 1; order = []; site = record { 0 = 0 }; temp = false; path = []; card = 100; cost = 3230; rescan = 3230 }))
+    ∷ ((op.Intersect), (pushed_of_cities_under_intersect ∷ emp_of_cities_under_intersect ∷ []), Some (record { tables = 2; cols = (0 ∷ 3 ∷ 0 ∷ 0 ∷ 0 ∷ 0 ∷ 0 ∷ 0 ∷ 0 ∷ 0 ∷ 0 ∷ 0 ∷ []); preds = 1; order = (record { quant = record { 0 = 1 }; column = 1 } ∷ record { quant = record { 0 = 1 }; column = 0 } ∷ []); site = record { 0 = 0 }; temp = false; path = []; card = 100; cost = 3230; rescan = 3230 }))
+    ∷ ((op.Intersect), (pushed_of_cities_under_intersect ∷ (record pushed_of_cities_under_intersect { temp = true; path = (record { quant = record { 0 = 1 }; column = 1 } ∷ []) }) ∷ []), Some ((record pushed_of_cities_under_intersect { cost = 460; rescan = 460 })))
     ∷ []

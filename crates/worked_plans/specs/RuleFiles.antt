@@ -12,6 +12,7 @@ use Rattle.star_model.specs.declared.rules.Condition.TheVariants as condition
 use Rattle.star_model.specs.declared.rules.PlanExpr.TheVariants as plan
 use Rattle.star_model.specs.declared.rules.Flavour.TheVariants as flavour
 use Rattle.star_model.specs.declared.rules.Which.TheVariants as which
+use Rattle.star_model.specs.declared.rules.Class.TheVariants as class
 use Rattle.star_model.specs.declared.rules.Kind.TheVariants as kind
 use Rattle.star_model.specs.declared.rules.Range.TheVariants as range
 use Rattle.star_model.specs.declared.rules.FormulaDef.{FormulaDef}
@@ -45,6 +46,8 @@ formulas_of_generator =
 
 abbrev pub generator : RuleFile
 generator = record {
+  version = 1;
+  selects = [];
   formulas = formulas_of_generator;
   stars =
       record { statement = 23; name = codes "AccessRoot"; params = (record { name = codes "A"; kind = kind.Stream } ∷ record { name = codes "J"; kind = kind.Preds } ∷ []); alternatives = (record { ranges = []; condition = None; body = (plan.Leaf flavour.AccessHeap ((value.Variable (codes "A") 0) ∷ (v.Union (v.Inside (v.Tables (value.Variable (codes "A") 0))) (value.Variable (codes "J") 1)) ∷ [])) } ∷ record { ranges = (record { name = codes "x"; range = range.Indexes (value.Variable (codes "A") 0) } ∷ []); condition = None; body = (plan.Leaf flavour.AccessIndex ((value.Variable (codes "A") 0) ∷ (value.Variable (codes "x") 2) ∷ (v.Union (v.Inside (v.Tables (value.Variable (codes "A") 0))) (value.Variable (codes "J") 1)) ∷ [])) } ∷ []) }
@@ -55,6 +58,8 @@ generator = record {
 
 abbrev pub hash : RuleFile
 hash = record {
+  version = 1;
+  selects = [];
   formulas = formulas_of_generator;
   stars =
       record { statement = 23; name = codes "AccessRoot"; params = (record { name = codes "A"; kind = kind.Stream } ∷ record { name = codes "J"; kind = kind.Preds } ∷ []); alternatives = (record { ranges = []; condition = None; body = (plan.Leaf flavour.AccessHeap ((value.Variable (codes "A") 0) ∷ (v.Union (v.Inside (v.Tables (value.Variable (codes "A") 0))) (value.Variable (codes "J") 1)) ∷ [])) } ∷ []) }
@@ -64,6 +69,8 @@ hash = record {
 
 abbrev pub heaps : RuleFile
 heaps = record {
+  version = 1;
+  selects = [];
   formulas = formulas_of_generator;
   stars =
       record { statement = 23; name = codes "AccessRoot"; params = (record { name = codes "A"; kind = kind.Stream } ∷ record { name = codes "J"; kind = kind.Preds } ∷ []); alternatives = (record { ranges = []; condition = None; body = (plan.Leaf flavour.AccessHeap ((value.Variable (codes "A") 0) ∷ (v.Union (v.Inside (v.Tables (value.Variable (codes "A") 0))) (value.Variable (codes "J") 1)) ∷ [])) } ∷ []) }
@@ -71,8 +78,50 @@ heaps = record {
       ∷ [];
 }
 
+abbrev pub formulas_of_intersect : List FormulaDef
+formulas_of_intersect =
+    record { statement = 2; flavour = flavour.AccessHeap; which = which.Cost; formula = (f.Add (f.Mul (formula.Number 10) (formula.Variable var.Pages)) (f.Mul (formula.Variable var.Cpu) (formula.Variable var.Rows))) }
+    ∷ record { statement = 3; flavour = flavour.AccessHeap; which = which.Rescan; formula = (f.Add (f.Mul (formula.Number 10) (formula.Variable var.Pages)) (f.Mul (formula.Variable var.Cpu) (formula.Variable var.Rows))) }
+    ∷ record { statement = 4; flavour = flavour.AccessIndex; which = which.Cost; formula = (f.Add (f.Add (formula.Number 10) (f.Div (f.Mul (f.Mul (formula.Number 10) (formula.Variable var.Pages)) (formula.Variable var.Card)) (formula.Variable var.Rows))) (f.Mul (formula.Variable var.Cpu) (formula.Variable var.Card))) }
+    ∷ record { statement = 5; flavour = flavour.AccessIndex; which = which.Rescan; formula = (f.Add (f.Add (formula.Number 10) (f.Div (f.Mul (f.Mul (formula.Number 10) (formula.Variable var.Pages)) (formula.Variable var.Card)) (formula.Variable var.Rows))) (f.Mul (formula.Variable var.Cpu) (formula.Variable var.Card))) }
+    ∷ record { statement = 6; flavour = flavour.Get; which = which.Cost; formula = (f.Add (f.Add (formula.Variable var.Cost1) (f.Mul (formula.Number 10) (formula.Variable var.Card1))) (f.Mul (f.Mul (formula.Variable var.Cpu) (formula.Variable var.Card1)) (formula.Variable var.Preds))) }
+    ∷ record { statement = 7; flavour = flavour.Get; which = which.Rescan; formula = (f.Add (f.Add (formula.Variable var.Rescan1) (f.Mul (formula.Number 10) (formula.Variable var.Card1))) (f.Mul (f.Mul (formula.Variable var.Cpu) (formula.Variable var.Card1)) (formula.Variable var.Preds))) }
+    ∷ record { statement = 8; flavour = flavour.Filter; which = which.Cost; formula = (f.Add (formula.Variable var.Cost1) (f.Mul (f.Mul (formula.Variable var.Cpu) (formula.Variable var.Card1)) (formula.Variable var.Preds))) }
+    ∷ record { statement = 9; flavour = flavour.Filter; which = which.Rescan; formula = (f.Add (formula.Variable var.Rescan1) (f.Mul (f.Mul (formula.Variable var.Cpu) (formula.Variable var.Card1)) (formula.Variable var.Preds))) }
+    ∷ record { statement = 10; flavour = flavour.Sort; which = which.Cost; formula = (f.Add (formula.Variable var.Cost1) (f.Mul (f.Mul (formula.Number 4) (formula.Variable var.Cpu)) (formula.Variable var.Card1))) }
+    ∷ record { statement = 11; flavour = flavour.Sort; which = which.Rescan; formula = (f.Add (formula.Variable var.Rescan1) (f.Mul (f.Mul (formula.Number 4) (formula.Variable var.Cpu)) (formula.Variable var.Card1))) }
+    ∷ record { statement = 12; flavour = flavour.Store; which = which.Cost; formula = (f.Add (formula.Variable var.Cost1) (f.Mul (f.Mul (formula.Number 2) (formula.Variable var.Cpu)) (formula.Variable var.Card1))) }
+    ∷ record { statement = 13; flavour = flavour.Store; which = which.Rescan; formula = (f.Mul (formula.Variable var.Cpu) (formula.Variable var.Card1)) }
+    ∷ record { statement = 14; flavour = flavour.Ship; which = which.Cost; formula = (f.Add (formula.Variable var.Cost1) (f.Mul (f.Mul (formula.Variable var.Net) (formula.Variable var.Card1)) (formula.Variable var.Width1))) }
+    ∷ record { statement = 15; flavour = flavour.Ship; which = which.Rescan; formula = (f.Add (formula.Variable var.Rescan1) (f.Mul (f.Mul (formula.Variable var.Net) (formula.Variable var.Card1)) (formula.Variable var.Width1))) }
+    ∷ record { statement = 16; flavour = flavour.Probe; which = which.Cost; formula = (f.Add (formula.Variable var.Cost1) (f.Mul (formula.Variable var.Cpu) (f.Add (formula.Number 1) (formula.Variable var.Card)))) }
+    ∷ record { statement = 17; flavour = flavour.Probe; which = which.Rescan; formula = (f.Mul (formula.Variable var.Cpu) (f.Add (formula.Number 1) (formula.Variable var.Card))) }
+    ∷ record { statement = 18; flavour = flavour.JoinNl; which = which.Cost; formula = (f.Add (f.Add (formula.Variable var.Cost1) (formula.Variable var.Cost2)) (f.Mul (f.Sub (formula.Variable var.Card1) (formula.Number 1)) (formula.Variable var.Rescan2))) }
+    ∷ record { statement = 19; flavour = flavour.JoinNl; which = which.Rescan; formula = (f.Add (formula.Variable var.Rescan1) (f.Mul (formula.Variable var.Card1) (formula.Variable var.Rescan2))) }
+    ∷ record { statement = 20; flavour = flavour.JoinMerge; which = which.Cost; formula = (f.Add (f.Add (formula.Variable var.Cost1) (formula.Variable var.Cost2)) (f.Mul (formula.Variable var.Cpu) (f.Add (formula.Variable var.Card1) (formula.Variable var.Card2)))) }
+    ∷ record { statement = 21; flavour = flavour.JoinMerge; which = which.Rescan; formula = (f.Add (f.Add (formula.Variable var.Rescan1) (formula.Variable var.Rescan2)) (f.Mul (formula.Variable var.Cpu) (f.Add (formula.Variable var.Card1) (formula.Variable var.Card2)))) }
+    ∷ record { statement = 22; flavour = flavour.JoinHash; which = which.Cost; formula = (f.Add (f.Add (formula.Variable var.Cost1) (formula.Variable var.Cost2)) (f.Mul (formula.Variable var.Cpu) (f.Add (formula.Variable var.Card1) (f.Mul (formula.Number 2) (formula.Variable var.Card2))))) }
+    ∷ record { statement = 23; flavour = flavour.JoinHash; which = which.Rescan; formula = (f.Add (f.Add (formula.Variable var.Rescan1) (formula.Variable var.Rescan2)) (f.Mul (formula.Variable var.Cpu) (f.Add (formula.Variable var.Card1) (f.Mul (formula.Number 2) (formula.Variable var.Card2))))) }
+    ∷ record { statement = 25; flavour = flavour.Intersect; which = which.Cost; formula = (f.Add (f.Add (formula.Variable var.Cost1) (formula.Variable var.Cost2)) (f.Mul (formula.Variable var.Cpu) (f.Add (formula.Variable var.Card1) (formula.Variable var.Card2)))) }
+    ∷ record { statement = 26; flavour = flavour.Intersect; which = which.Rescan; formula = (f.Add (f.Add (formula.Variable var.Rescan1) (formula.Variable var.Rescan2)) (f.Mul (formula.Variable var.Cpu) (f.Add (formula.Variable var.Card1) (formula.Variable var.Card2)))) }
+    ∷ []
+
+abbrev pub intersect : RuleFile
+intersect = record {
+  version = 2;
+  selects = [];
+  formulas = formulas_of_intersect;
+  stars =
+      record { statement = 24; name = codes "JoinRoot"; params = (record { name = codes "A"; kind = kind.Stream } ∷ record { name = codes "B"; kind = kind.Stream } ∷ record { name = codes "J"; kind = kind.Preds } ∷ []); alternatives = (record { ranges = []; condition = None; body = (e.Binary flavour.JoinNl ((v.Between (v.Tables (value.Variable (codes "A") 0)) (v.Tables (value.Variable (codes "B") 1))) ∷ []) (plan.Glue (value.Variable (codes "A") 0) (value.Variable (codes "J") 2)) (plan.Glue (value.Variable (codes "B") 1) (value.Variable (codes "J") 2))) } ∷ []) }
+      ∷ record { statement = 27; name = codes "AccessRoot"; params = (record { name = codes "A"; kind = kind.Stream } ∷ record { name = codes "J"; kind = kind.Preds } ∷ []); alternatives = (record { ranges = []; condition = None; body = (plan.Reference (codes "Paths") ((value.Variable (codes "A") 0) ∷ (v.Union (v.Inside (v.Tables (value.Variable (codes "A") 0))) (value.Variable (codes "J") 1)) ∷ [])) } ∷ []) }
+      ∷ record { statement = 28; name = codes "Paths"; params = (record { name = codes "A"; kind = kind.Stream } ∷ record { name = codes "P"; kind = kind.Preds } ∷ []); alternatives = (record { ranges = []; condition = None; body = (plan.Leaf flavour.AccessHeap ((value.Variable (codes "A") 0) ∷ (value.Variable (codes "P") 1) ∷ [])) } ∷ record { ranges = (record { name = codes "x"; range = range.Indexes (value.Variable (codes "A") 0) } ∷ []); condition = None; body = (e.Unary flavour.Get ((value.Variable (codes "A") 0) ∷ (v.Minus (value.Variable (codes "P") 1) (v.Indexable (value.Variable (codes "A") 0) (value.Variable (codes "x") 2) (value.Variable (codes "P") 1))) ∷ []) (plan.Leaf flavour.AccessIndex ((value.Variable (codes "A") 0) ∷ (value.Variable (codes "x") 2) ∷ (v.Indexable (value.Variable (codes "A") 0) (value.Variable (codes "x") 2) (value.Variable (codes "P") 1)) ∷ []))) } ∷ record { ranges = (record { name = codes "x"; range = range.Indexes (value.Variable (codes "A") 0) } ∷ record { name = codes "y"; range = range.Indexes (value.Variable (codes "A") 0) } ∷ []); condition = Some (c.Not (condition.Same (value.Variable (codes "x") 2) (value.Variable (codes "y") 3))); body = (e.Unary flavour.Get ((value.Variable (codes "A") 0) ∷ (v.Minus (value.Variable (codes "P") 1) (v.Union (v.Indexable (value.Variable (codes "A") 0) (value.Variable (codes "x") 2) (value.Variable (codes "P") 1)) (v.Indexable (value.Variable (codes "A") 0) (value.Variable (codes "y") 3) (value.Variable (codes "P") 1)))) ∷ []) (e.Binary flavour.Intersect [] (plan.Leaf flavour.AccessIndex ((value.Variable (codes "A") 0) ∷ (value.Variable (codes "x") 2) ∷ (v.Indexable (value.Variable (codes "A") 0) (value.Variable (codes "x") 2) (value.Variable (codes "P") 1)) ∷ [])) (plan.Leaf flavour.AccessIndex ((value.Variable (codes "A") 0) ∷ (value.Variable (codes "y") 3) ∷ (v.Indexable (value.Variable (codes "A") 0) (value.Variable (codes "y") 3) (value.Variable (codes "P") 1)) ∷ [])))) } ∷ []) }
+      ∷ [];
+}
+
 abbrev pub merge : RuleFile
 merge = record {
+  version = 1;
+  selects = [];
   formulas = formulas_of_generator;
   stars =
       record { statement = 23; name = codes "AccessRoot"; params = (record { name = codes "A"; kind = kind.Stream } ∷ record { name = codes "J"; kind = kind.Preds } ∷ []); alternatives = (record { ranges = []; condition = None; body = (plan.Leaf flavour.AccessHeap ((value.Variable (codes "A") 0) ∷ (v.Union (v.Inside (v.Tables (value.Variable (codes "A") 0))) (value.Variable (codes "J") 1)) ∷ [])) } ∷ []) }
@@ -83,6 +132,8 @@ merge = record {
 
 abbrev pub pushdown : RuleFile
 pushdown = record {
+  version = 1;
+  selects = [];
   formulas = formulas_of_generator;
   stars =
       record { statement = 23; name = codes "AccessRoot"; params = (record { name = codes "A"; kind = kind.Stream } ∷ record { name = codes "J"; kind = kind.Preds } ∷ []); alternatives = (record { ranges = []; condition = None; body = (plan.Leaf flavour.AccessHeap ((value.Variable (codes "A") 0) ∷ (v.Union (v.Inside (v.Tables (value.Variable (codes "A") 0))) (value.Variable (codes "J") 1)) ∷ [])) } ∷ record { ranges = (record { name = codes "x"; range = range.Indexes (value.Variable (codes "A") 0) } ∷ []); condition = None; body = (plan.Leaf flavour.AccessIndex ((value.Variable (codes "A") 0) ∷ (value.Variable (codes "x") 2) ∷ (v.Union (v.Inside (v.Tables (value.Variable (codes "A") 0))) (value.Variable (codes "J") 1)) ∷ [])) } ∷ []) }
@@ -90,8 +141,47 @@ pushdown = record {
       ∷ [];
 }
 
+abbrev pub formulas_of_skewed : List FormulaDef
+formulas_of_skewed =
+    record { statement = 2; flavour = flavour.AccessHeap; which = which.Cost; formula = (f.Add (f.Mul (formula.Number 10) (formula.Variable var.Pages)) (f.Mul (formula.Variable var.Cpu) (formula.Variable var.Rows))) }
+    ∷ record { statement = 3; flavour = flavour.AccessHeap; which = which.Rescan; formula = (f.Add (f.Mul (formula.Number 10) (formula.Variable var.Pages)) (f.Mul (formula.Variable var.Cpu) (formula.Variable var.Rows))) }
+    ∷ record { statement = 4; flavour = flavour.AccessIndex; which = which.Cost; formula = (f.Add (f.Add (formula.Number 10) (f.Div (f.Mul (f.Mul (formula.Number 10) (formula.Variable var.Pages)) (formula.Variable var.Card)) (formula.Variable var.Rows))) (f.Mul (formula.Variable var.Cpu) (formula.Variable var.Card))) }
+    ∷ record { statement = 5; flavour = flavour.AccessIndex; which = which.Rescan; formula = (f.Add (f.Add (formula.Number 10) (f.Div (f.Mul (f.Mul (formula.Number 10) (formula.Variable var.Pages)) (formula.Variable var.Card)) (formula.Variable var.Rows))) (f.Mul (formula.Variable var.Cpu) (formula.Variable var.Card))) }
+    ∷ record { statement = 6; flavour = flavour.Get; which = which.Cost; formula = (f.Add (f.Add (formula.Variable var.Cost1) (f.Mul (formula.Number 10) (formula.Variable var.Card1))) (f.Mul (f.Mul (formula.Variable var.Cpu) (formula.Variable var.Card1)) (formula.Variable var.Preds))) }
+    ∷ record { statement = 7; flavour = flavour.Get; which = which.Rescan; formula = (f.Add (f.Add (formula.Variable var.Rescan1) (f.Mul (formula.Number 10) (formula.Variable var.Card1))) (f.Mul (f.Mul (formula.Variable var.Cpu) (formula.Variable var.Card1)) (formula.Variable var.Preds))) }
+    ∷ record { statement = 8; flavour = flavour.Filter; which = which.Cost; formula = (f.Add (formula.Variable var.Cost1) (f.Mul (f.Mul (formula.Variable var.Cpu) (formula.Variable var.Card1)) (formula.Variable var.Preds))) }
+    ∷ record { statement = 9; flavour = flavour.Filter; which = which.Rescan; formula = (f.Add (formula.Variable var.Rescan1) (f.Mul (f.Mul (formula.Variable var.Cpu) (formula.Variable var.Card1)) (formula.Variable var.Preds))) }
+    ∷ record { statement = 10; flavour = flavour.Sort; which = which.Cost; formula = (f.Add (formula.Variable var.Cost1) (f.Mul (f.Mul (formula.Number 4) (formula.Variable var.Cpu)) (formula.Variable var.Card1))) }
+    ∷ record { statement = 11; flavour = flavour.Sort; which = which.Rescan; formula = (f.Add (formula.Variable var.Rescan1) (f.Mul (f.Mul (formula.Number 4) (formula.Variable var.Cpu)) (formula.Variable var.Card1))) }
+    ∷ record { statement = 12; flavour = flavour.Store; which = which.Cost; formula = (f.Add (formula.Variable var.Cost1) (f.Mul (f.Mul (formula.Number 2) (formula.Variable var.Cpu)) (formula.Variable var.Card1))) }
+    ∷ record { statement = 13; flavour = flavour.Store; which = which.Rescan; formula = (f.Mul (formula.Variable var.Cpu) (formula.Variable var.Card1)) }
+    ∷ record { statement = 14; flavour = flavour.Ship; which = which.Cost; formula = (f.Add (formula.Variable var.Cost1) (f.Mul (f.Mul (formula.Variable var.Net) (formula.Variable var.Card1)) (formula.Variable var.Width1))) }
+    ∷ record { statement = 15; flavour = flavour.Ship; which = which.Rescan; formula = (f.Add (formula.Variable var.Rescan1) (f.Mul (f.Mul (formula.Variable var.Net) (formula.Variable var.Card1)) (formula.Variable var.Width1))) }
+    ∷ record { statement = 16; flavour = flavour.Probe; which = which.Cost; formula = (f.Add (formula.Variable var.Cost1) (f.Mul (formula.Variable var.Cpu) (f.Add (formula.Number 1) (formula.Variable var.Card)))) }
+    ∷ record { statement = 17; flavour = flavour.Probe; which = which.Rescan; formula = (f.Mul (formula.Variable var.Cpu) (f.Add (formula.Number 1) (formula.Variable var.Card))) }
+    ∷ record { statement = 18; flavour = flavour.JoinNl; which = which.Cost; formula = (f.Add (f.Add (formula.Variable var.Cost1) (formula.Variable var.Cost2)) (f.Mul (f.Sub (formula.Variable var.Card1) (formula.Number 1)) (formula.Variable var.Rescan2))) }
+    ∷ record { statement = 19; flavour = flavour.JoinNl; which = which.Rescan; formula = (f.Add (formula.Variable var.Rescan1) (f.Mul (formula.Variable var.Card1) (formula.Variable var.Rescan2))) }
+    ∷ record { statement = 20; flavour = flavour.JoinMerge; which = which.Cost; formula = (f.Add (f.Add (formula.Variable var.Cost1) (formula.Variable var.Cost2)) (f.Mul (formula.Variable var.Cpu) (f.Add (formula.Variable var.Card1) (formula.Variable var.Card2)))) }
+    ∷ record { statement = 21; flavour = flavour.JoinMerge; which = which.Rescan; formula = (f.Add (f.Add (formula.Variable var.Rescan1) (formula.Variable var.Rescan2)) (f.Mul (formula.Variable var.Cpu) (f.Add (formula.Variable var.Card1) (formula.Variable var.Card2)))) }
+    ∷ record { statement = 22; flavour = flavour.JoinHash; which = which.Cost; formula = (f.Add (f.Add (formula.Variable var.Cost1) (formula.Variable var.Cost2)) (f.Mul (formula.Variable var.Cpu) (f.Add (formula.Variable var.Card1) (f.Mul (formula.Number 2) (formula.Variable var.Card2))))) }
+    ∷ record { statement = 23; flavour = flavour.JoinHash; which = which.Rescan; formula = (f.Add (f.Add (formula.Variable var.Rescan1) (formula.Variable var.Rescan2)) (f.Mul (formula.Variable var.Cpu) (f.Add (formula.Variable var.Card1) (f.Mul (formula.Number 2) (formula.Variable var.Card2))))) }
+    ∷ []
+
+abbrev pub skewed : RuleFile
+skewed = record {
+  version = 2;
+  selects = (record { statement = 26; class = class.EqConst; num = (formula.Number 2); den = (formula.Variable var.Distinct1) } ∷ []);
+  formulas = formulas_of_skewed;
+  stars =
+      record { statement = 24; name = codes "AccessRoot"; params = (record { name = codes "A"; kind = kind.Stream } ∷ record { name = codes "J"; kind = kind.Preds } ∷ []); alternatives = (record { ranges = []; condition = None; body = (plan.Leaf flavour.AccessHeap ((value.Variable (codes "A") 0) ∷ (v.Union (v.Inside (v.Tables (value.Variable (codes "A") 0))) (value.Variable (codes "J") 1)) ∷ [])) } ∷ []) }
+      ∷ record { statement = 25; name = codes "JoinRoot"; params = (record { name = codes "A"; kind = kind.Stream } ∷ record { name = codes "B"; kind = kind.Stream } ∷ record { name = codes "J"; kind = kind.Preds } ∷ []); alternatives = (record { ranges = []; condition = None; body = (e.Binary flavour.JoinNl ((v.Between (v.Tables (value.Variable (codes "A") 0)) (v.Tables (value.Variable (codes "B") 1))) ∷ []) (plan.Glue (value.Variable (codes "A") 0) (value.Variable (codes "J") 2)) (plan.Glue (value.Variable (codes "B") 1) (value.Variable (codes "J") 2))) } ∷ []) }
+      ∷ [];
+}
+
 abbrev pub standard : RuleFile
 standard = record {
+  version = 1;
+  selects = [];
   formulas = formulas_of_generator;
   stars =
       record { statement = 23; name = codes "AccessRoot"; params = (record { name = codes "A"; kind = kind.Stream } ∷ record { name = codes "J"; kind = kind.Preds } ∷ []); alternatives = (record { ranges = []; condition = None; body = (plan.Leaf flavour.AccessHeap ((value.Variable (codes "A") 0) ∷ (v.Union (v.Inside (v.Tables (value.Variable (codes "A") 0))) (value.Variable (codes "J") 1)) ∷ [])) } ∷ record { ranges = (record { name = codes "x"; range = range.Indexes (value.Variable (codes "A") 0) } ∷ []); condition = None; body = (plan.Leaf flavour.AccessIndex ((value.Variable (codes "A") 0) ∷ (value.Variable (codes "x") 2) ∷ (v.Indexable (value.Variable (codes "A") 0) (value.Variable (codes "x") 2) (v.Union (v.Inside (v.Tables (value.Variable (codes "A") 0))) (value.Variable (codes "J") 1))) ∷ [])) } ∷ record { ranges = (record { name = codes "x"; range = range.Indexes (value.Variable (codes "A") 0) } ∷ []); condition = None; body = (e.Unary flavour.Get ((value.Variable (codes "A") 0) ∷ (v.Minus (v.Union (v.Inside (v.Tables (value.Variable (codes "A") 0))) (value.Variable (codes "J") 1)) (v.Indexable (value.Variable (codes "A") 0) (value.Variable (codes "x") 2) (v.Union (v.Inside (v.Tables (value.Variable (codes "A") 0))) (value.Variable (codes "J") 1)))) ∷ []) (plan.Leaf flavour.AccessIndex ((value.Variable (codes "A") 0) ∷ (value.Variable (codes "x") 2) ∷ (v.Indexable (value.Variable (codes "A") 0) (value.Variable (codes "x") 2) (v.Union (v.Inside (v.Tables (value.Variable (codes "A") 0))) (value.Variable (codes "J") 1))) ∷ []))) } ∷ []) }
@@ -103,6 +193,8 @@ standard = record {
 
 abbrev pub stored_heaps : RuleFile
 stored_heaps = record {
+  version = 1;
+  selects = [];
   formulas = formulas_of_generator;
   stars =
       record { statement = 23; name = codes "AccessRoot"; params = (record { name = codes "A"; kind = kind.Stream } ∷ record { name = codes "J"; kind = kind.Preds } ∷ []); alternatives = (record { ranges = []; condition = None; body = (plan.Leaf flavour.AccessHeap ((value.Variable (codes "A") 0) ∷ (v.Union (v.Inside (v.Tables (value.Variable (codes "A") 0))) (value.Variable (codes "J") 1)) ∷ [])) } ∷ record { ranges = []; condition = None; body = (e.Unary flavour.Store (value.NoCols ∷ []) (plan.Leaf flavour.AccessHeap ((value.Variable (codes "A") 0) ∷ (v.Union (v.Inside (v.Tables (value.Variable (codes "A") 0))) (value.Variable (codes "J") 1)) ∷ []))) } ∷ []) }
@@ -124,6 +216,8 @@ formulas_of_stored_tiny =
 
 abbrev pub stored_tiny : RuleFile
 stored_tiny = record {
+  version = 1;
+  selects = [];
   formulas = formulas_of_stored_tiny;
   stars =
       record { statement = 9; name = codes "AccessRoot"; params = (record { name = codes "A"; kind = kind.Stream } ∷ record { name = codes "J"; kind = kind.Preds } ∷ []); alternatives = (record { ranges = []; condition = None; body = (e.Unary flavour.Store (value.NoCols ∷ []) (plan.Leaf flavour.AccessHeap ((value.Variable (codes "A") 0) ∷ (value.Variable (codes "J") 1) ∷ []))) } ∷ record { ranges = []; condition = None; body = (plan.Leaf flavour.AccessHeap ((value.Variable (codes "A") 0) ∷ (value.Variable (codes "J") 1) ∷ [])) } ∷ []) }
@@ -133,6 +227,8 @@ stored_tiny = record {
 
 abbrev pub storing : RuleFile
 storing = record {
+  version = 1;
+  selects = [];
   formulas = formulas_of_stored_tiny;
   stars =
       record { statement = 9; name = codes "AccessRoot"; params = (record { name = codes "A"; kind = kind.Stream } ∷ record { name = codes "J"; kind = kind.Preds } ∷ []); alternatives = (record { ranges = []; condition = None; body = (plan.Leaf flavour.AccessHeap ((value.Variable (codes "A") 0) ∷ (value.Variable (codes "J") 1) ∷ [])) } ∷ record { ranges = []; condition = None; body = (e.Unary flavour.Store (value.NoCols ∷ []) (plan.Leaf flavour.AccessHeap ((value.Variable (codes "A") 0) ∷ (value.Variable (codes "J") 1) ∷ []))) } ∷ record { ranges = []; condition = None; body = (e.Unary flavour.Store (value.NoCols ∷ []) (e.Unary flavour.Store (value.NoCols ∷ []) (plan.Leaf flavour.AccessHeap ((value.Variable (codes "A") 0) ∷ (value.Variable (codes "J") 1) ∷ [])))) } ∷ []) }
@@ -142,6 +238,8 @@ storing = record {
 
 abbrev pub tie : RuleFile
 tie = record {
+  version = 1;
+  selects = [];
   formulas = formulas_of_stored_tiny;
   stars =
       record { statement = 9; name = codes "AccessRoot"; params = (record { name = codes "A"; kind = kind.Stream } ∷ record { name = codes "J"; kind = kind.Preds } ∷ []); alternatives = (record { ranges = []; condition = None; body = (plan.Leaf flavour.AccessHeap ((value.Variable (codes "A") 0) ∷ (value.Variable (codes "J") 1) ∷ [])) } ∷ record { ranges = []; condition = None; body = (plan.Leaf flavour.AccessHeap ((value.Variable (codes "A") 0) ∷ (value.Variable (codes "J") 1) ∷ [])) } ∷ []) }
@@ -151,6 +249,8 @@ tie = record {
 
 abbrev pub tiny : RuleFile
 tiny = record {
+  version = 1;
+  selects = [];
   formulas = formulas_of_stored_tiny;
   stars =
       record { statement = 9; name = codes "AccessRoot"; params = (record { name = codes "A"; kind = kind.Stream } ∷ record { name = codes "J"; kind = kind.Preds } ∷ []); alternatives = (record { ranges = []; condition = None; body = (plan.Leaf flavour.AccessHeap ((value.Variable (codes "A") 0) ∷ (value.Variable (codes "J") 1) ∷ [])) } ∷ []) }
@@ -160,6 +260,8 @@ tiny = record {
 
 abbrev pub tall : RuleFile
 tall = record {
+  version = 1;
+  selects = [];
   formulas = formulas_of_stored_tiny;
   stars =
       record { statement = 9; name = codes "AccessRoot"; params = (record { name = codes "A"; kind = kind.Stream } ∷ record { name = codes "J"; kind = kind.Preds } ∷ []); alternatives = (record { ranges = []; condition = None; body = (plan.Reference (codes "H2") ((value.Variable (codes "A") 0) ∷ (value.Variable (codes "J") 1) ∷ [])) } ∷ []) }
@@ -210,6 +312,8 @@ formulas_of_variables =
 
 abbrev pub variables : RuleFile
 variables = record {
+  version = 1;
+  selects = [];
   formulas = formulas_of_variables;
   stars =
       record { statement = 23; name = codes "AccessRoot"; params = (record { name = codes "A"; kind = kind.Stream } ∷ record { name = codes "J"; kind = kind.Preds } ∷ []); alternatives = (record { ranges = []; condition = None; body = (plan.Leaf flavour.AccessHeap ((value.Variable (codes "A") 0) ∷ (v.Union (v.Inside (v.Tables (value.Variable (codes "A") 0))) (value.Variable (codes "J") 1)) ∷ [])) } ∷ []) }
@@ -219,6 +323,8 @@ variables = record {
 
 abbrev pub wide : RuleFile
 wide = record {
+  version = 1;
+  selects = [];
   formulas = formulas_of_stored_tiny;
   stars =
       record { statement = 9; name = codes "AccessRoot"; params = (record { name = codes "A"; kind = kind.Stream } ∷ record { name = codes "J"; kind = kind.Preds } ∷ []); alternatives = (record { ranges = []; condition = None; body = (plan.Reference (codes "Sb") ((value.Variable (codes "A") 0) ∷ (value.Variable (codes "J") 1) ∷ [])) } ∷ record { ranges = []; condition = None; body = (plan.Reference (codes "Sb") ((value.Variable (codes "A") 0) ∷ (value.Variable (codes "J") 1) ∷ [])) } ∷ record { ranges = []; condition = None; body = (plan.Reference (codes "Sb") ((value.Variable (codes "A") 0) ∷ (value.Variable (codes "J") 1) ∷ [])) } ∷ record { ranges = []; condition = None; body = (plan.Reference (codes "Sb") ((value.Variable (codes "A") 0) ∷ (value.Variable (codes "J") 1) ∷ [])) } ∷ record { ranges = []; condition = None; body = (plan.Reference (codes "Sb") ((value.Variable (codes "A") 0) ∷ (value.Variable (codes "J") 1) ∷ [])) } ∷ record { ranges = []; condition = None; body = (plan.Reference (codes "Sb") ((value.Variable (codes "A") 0) ∷ (value.Variable (codes "J") 1) ∷ [])) } ∷ record { ranges = []; condition = None; body = (plan.Reference (codes "Sb") ((value.Variable (codes "A") 0) ∷ (value.Variable (codes "J") 1) ∷ [])) } ∷ record { ranges = []; condition = None; body = (plan.Reference (codes "Sb") ((value.Variable (codes "A") 0) ∷ (value.Variable (codes "J") 1) ∷ [])) } ∷ record { ranges = []; condition = None; body = (plan.Reference (codes "Sb") ((value.Variable (codes "A") 0) ∷ (value.Variable (codes "J") 1) ∷ [])) } ∷ record { ranges = []; condition = None; body = (plan.Reference (codes "Sb") ((value.Variable (codes "A") 0) ∷ (value.Variable (codes "J") 1) ∷ [])) } ∷ record { ranges = []; condition = None; body = (plan.Reference (codes "Sb") ((value.Variable (codes "A") 0) ∷ (value.Variable (codes "J") 1) ∷ [])) } ∷ record { ranges = []; condition = None; body = (plan.Reference (codes "Sb") ((value.Variable (codes "A") 0) ∷ (value.Variable (codes "J") 1) ∷ [])) } ∷ record { ranges = []; condition = None; body = (plan.Reference (codes "Sb") ((value.Variable (codes "A") 0) ∷ (value.Variable (codes "J") 1) ∷ [])) } ∷ record { ranges = []; condition = None; body = (plan.Reference (codes "Sb") ((value.Variable (codes "A") 0) ∷ (value.Variable (codes "J") 1) ∷ [])) } ∷ record { ranges = []; condition = None; body = (plan.Reference (codes "Sb") ((value.Variable (codes "A") 0) ∷ (value.Variable (codes "J") 1) ∷ [])) } ∷ record { ranges = []; condition = None; body = (plan.Reference (codes "Sc") ((value.Variable (codes "A") 0) ∷ (value.Variable (codes "J") 1) ∷ [])) } ∷ []) }
@@ -231,6 +337,8 @@ wide = record {
 
 abbrev pub cycle : RuleFile
 cycle = record {
+  version = 1;
+  selects = [];
   formulas = formulas_of_stored_tiny;
   stars =
       record { statement = 9; name = codes "AccessRoot"; params = (record { name = codes "A"; kind = kind.Stream } ∷ record { name = codes "J"; kind = kind.Preds } ∷ []); alternatives = (record { ranges = []; condition = None; body = (plan.Reference (codes "Other") ((value.Variable (codes "A") 0) ∷ (value.Variable (codes "J") 1) ∷ [])) } ∷ []) }
@@ -241,6 +349,8 @@ cycle = record {
 
 abbrev pub for_all_name : RuleFile
 for_all_name = record {
+  version = 1;
+  selects = [];
   formulas = formulas_of_stored_tiny;
   stars =
       record { statement = 9; name = codes "AccessRoot"; params = (record { name = codes "A"; kind = kind.Stream } ∷ record { name = codes "J"; kind = kind.Preds } ∷ []); alternatives = (record { ranges = (record { name = codes "J"; range = range.Sites } ∷ []); condition = None; body = (plan.Leaf flavour.AccessHeap ((value.Variable (codes "A") 0) ∷ value.NoPreds ∷ [])) } ∷ []) }
@@ -250,6 +360,8 @@ for_all_name = record {
 
 abbrev pub for_all_twice : RuleFile
 for_all_twice = record {
+  version = 1;
+  selects = [];
   formulas = formulas_of_stored_tiny;
   stars =
       record { statement = 9; name = codes "AccessRoot"; params = (record { name = codes "A"; kind = kind.Stream } ∷ record { name = codes "J"; kind = kind.Preds } ∷ []); alternatives = (record { ranges = []; condition = None; body = (plan.Leaf flavour.AccessHeap ((value.Variable (codes "A") 0) ∷ (value.Variable (codes "J") 1) ∷ [])) } ∷ []) }
@@ -272,6 +384,8 @@ formulas_of_formula_twice =
 
 abbrev pub formula_twice : RuleFile
 formula_twice = record {
+  version = 1;
+  selects = [];
   formulas = formulas_of_formula_twice;
   stars =
       record { statement = 9; name = codes "AccessRoot"; params = (record { name = codes "A"; kind = kind.Stream } ∷ record { name = codes "J"; kind = kind.Preds } ∷ []); alternatives = (record { ranges = []; condition = None; body = (plan.Leaf flavour.AccessHeap ((value.Variable (codes "A") 0) ∷ (value.Variable (codes "J") 1) ∷ [])) } ∷ []) }
@@ -281,6 +395,8 @@ formula_twice = record {
 
 abbrev pub glue_in_access : RuleFile
 glue_in_access = record {
+  version = 1;
+  selects = [];
   formulas = formulas_of_stored_tiny;
   stars =
       record { statement = 9; name = codes "AccessRoot"; params = (record { name = codes "A"; kind = kind.Stream } ∷ record { name = codes "J"; kind = kind.Preds } ∷ []); alternatives = (record { ranges = []; condition = None; body = (plan.Glue (value.Variable (codes "A") 0) (value.Variable (codes "J") 1)) } ∷ []) }
@@ -290,6 +406,8 @@ glue_in_access = record {
 
 abbrev pub glue_in_join_of_access : RuleFile
 glue_in_join_of_access = record {
+  version = 1;
+  selects = [];
   formulas = formulas_of_stored_tiny;
   stars =
       record { statement = 9; name = codes "AccessRoot"; params = (record { name = codes "A"; kind = kind.Stream } ∷ record { name = codes "J"; kind = kind.Preds } ∷ []); alternatives = (record { ranges = []; condition = None; body = (e.Binary flavour.JoinNl (value.NoPreds ∷ []) (plan.Leaf flavour.AccessHeap ((value.Variable (codes "A") 0) ∷ (value.Variable (codes "J") 1) ∷ [])) (plan.Glue (value.Variable (codes "A") 0) (value.Variable (codes "J") 1))) } ∷ []) }
@@ -303,6 +421,8 @@ formulas_of_no_access_root =
 
 abbrev pub no_access_root : RuleFile
 no_access_root = record {
+  version = 1;
+  selects = [];
   formulas = formulas_of_no_access_root;
   stars =
       [];
@@ -310,6 +430,8 @@ no_access_root = record {
 
 abbrev pub no_formula : RuleFile
 no_formula = record {
+  version = 1;
+  selects = [];
   formulas = formulas_of_stored_tiny;
   stars =
       record { statement = 9; name = codes "AccessRoot"; params = (record { name = codes "A"; kind = kind.Stream } ∷ record { name = codes "J"; kind = kind.Preds } ∷ []); alternatives = (record { ranges = []; condition = None; body = (e.Unary flavour.Filter (value.NoPreds ∷ []) (plan.Leaf flavour.AccessHeap ((value.Variable (codes "A") 0) ∷ (value.Variable (codes "J") 1) ∷ []))) } ∷ []) }
@@ -319,6 +441,8 @@ no_formula = record {
 
 abbrev pub no_join_root : RuleFile
 no_join_root = record {
+  version = 1;
+  selects = [];
   formulas = formulas_of_stored_tiny;
   stars =
       record { statement = 9; name = codes "AccessRoot"; params = (record { name = codes "A"; kind = kind.Stream } ∷ record { name = codes "J"; kind = kind.Preds } ∷ []); alternatives = (record { ranges = []; condition = None; body = (plan.Leaf flavour.AccessHeap ((value.Variable (codes "A") 0) ∷ (value.Variable (codes "J") 1) ∷ [])) } ∷ []) }
@@ -338,6 +462,8 @@ formulas_of_no_rescan =
 
 abbrev pub no_rescan : RuleFile
 no_rescan = record {
+  version = 1;
+  selects = [];
   formulas = formulas_of_no_rescan;
   stars =
       record { statement = 8; name = codes "AccessRoot"; params = (record { name = codes "A"; kind = kind.Stream } ∷ record { name = codes "J"; kind = kind.Preds } ∷ []); alternatives = (record { ranges = []; condition = None; body = (plan.Leaf flavour.AccessHeap ((value.Variable (codes "A") 0) ∷ (value.Variable (codes "J") 1) ∷ [])) } ∷ []) }
@@ -357,6 +483,8 @@ formulas_of_no_ship =
 
 abbrev pub no_ship : RuleFile
 no_ship = record {
+  version = 1;
+  selects = [];
   formulas = formulas_of_no_ship;
   stars =
       record { statement = 7; name = codes "AccessRoot"; params = (record { name = codes "A"; kind = kind.Stream } ∷ record { name = codes "J"; kind = kind.Preds } ∷ []); alternatives = (record { ranges = []; condition = None; body = (plan.Leaf flavour.AccessHeap ((value.Variable (codes "A") 0) ∷ (value.Variable (codes "J") 1) ∷ [])) } ∷ []) }
@@ -376,6 +504,8 @@ formulas_of_no_sort =
 
 abbrev pub no_sort : RuleFile
 no_sort = record {
+  version = 1;
+  selects = [];
   formulas = formulas_of_no_sort;
   stars =
       record { statement = 7; name = codes "AccessRoot"; params = (record { name = codes "A"; kind = kind.Stream } ∷ record { name = codes "J"; kind = kind.Preds } ∷ []); alternatives = (record { ranges = []; condition = None; body = (plan.Leaf flavour.AccessHeap ((value.Variable (codes "A") 0) ∷ (value.Variable (codes "J") 1) ∷ [])) } ∷ []) }
@@ -397,6 +527,8 @@ formulas_of_not_monotone =
 
 abbrev pub not_monotone : RuleFile
 not_monotone = record {
+  version = 1;
+  selects = [];
   formulas = formulas_of_not_monotone;
   stars =
       record { statement = 9; name = codes "AccessRoot"; params = (record { name = codes "A"; kind = kind.Stream } ∷ record { name = codes "J"; kind = kind.Preds } ∷ []); alternatives = (record { ranges = []; condition = None; body = (plan.Leaf flavour.AccessHeap ((value.Variable (codes "A") 0) ∷ (value.Variable (codes "J") 1) ∷ [])) } ∷ []) }
@@ -418,6 +550,8 @@ formulas_of_rescan_not_monotone =
 
 abbrev pub rescan_not_monotone : RuleFile
 rescan_not_monotone = record {
+  version = 1;
+  selects = [];
   formulas = formulas_of_rescan_not_monotone;
   stars =
       record { statement = 9; name = codes "AccessRoot"; params = (record { name = codes "A"; kind = kind.Stream } ∷ record { name = codes "J"; kind = kind.Preds } ∷ []); alternatives = (record { ranges = []; condition = None; body = (plan.Leaf flavour.AccessHeap ((value.Variable (codes "A") 0) ∷ (value.Variable (codes "J") 1) ∷ [])) } ∷ []) }
@@ -427,6 +561,8 @@ rescan_not_monotone = record {
 
 abbrev pub same_names : RuleFile
 same_names = record {
+  version = 1;
+  selects = [];
   formulas = formulas_of_stored_tiny;
   stars =
       record { statement = 9; name = codes "AccessRoot"; params = (record { name = codes "A"; kind = kind.Stream } ∷ record { name = codes "A"; kind = kind.Preds } ∷ []); alternatives = (record { ranges = []; condition = None; body = (plan.Leaf flavour.AccessHeap ((value.Variable (codes "A") 0) ∷ (value.Variable (codes "A") 0) ∷ [])) } ∷ []) }
@@ -434,8 +570,21 @@ same_names = record {
       ∷ [];
 }
 
+abbrev pub selectivity_twice : RuleFile
+selectivity_twice = record {
+  version = 2;
+  selects = (record { statement = 26; class = class.EqConst; num = (formula.Number 2); den = (formula.Variable var.Distinct1) } ∷ record { statement = 27; class = class.EqConst; num = (formula.Number 2); den = (formula.Variable var.Distinct1) } ∷ []);
+  formulas = formulas_of_skewed;
+  stars =
+      record { statement = 24; name = codes "AccessRoot"; params = (record { name = codes "A"; kind = kind.Stream } ∷ record { name = codes "J"; kind = kind.Preds } ∷ []); alternatives = (record { ranges = []; condition = None; body = (plan.Leaf flavour.AccessHeap ((value.Variable (codes "A") 0) ∷ (v.Union (v.Inside (v.Tables (value.Variable (codes "A") 0))) (value.Variable (codes "J") 1)) ∷ [])) } ∷ []) }
+      ∷ record { statement = 25; name = codes "JoinRoot"; params = (record { name = codes "A"; kind = kind.Stream } ∷ record { name = codes "B"; kind = kind.Stream } ∷ record { name = codes "J"; kind = kind.Preds } ∷ []); alternatives = (record { ranges = []; condition = None; body = (e.Binary flavour.JoinNl ((v.Between (v.Tables (value.Variable (codes "A") 0)) (v.Tables (value.Variable (codes "B") 1))) ∷ []) (plan.Glue (value.Variable (codes "A") 0) (value.Variable (codes "J") 2)) (plan.Glue (value.Variable (codes "B") 1) (value.Variable (codes "J") 2))) } ∷ []) }
+      ∷ [];
+}
+
 abbrev pub star_twice : RuleFile
 star_twice = record {
+  version = 1;
+  selects = [];
   formulas = formulas_of_stored_tiny;
   stars =
       record { statement = 9; name = codes "AccessRoot"; params = (record { name = codes "A"; kind = kind.Stream } ∷ record { name = codes "J"; kind = kind.Preds } ∷ []); alternatives = (record { ranges = []; condition = None; body = (plan.Leaf flavour.AccessHeap ((value.Variable (codes "A") 0) ∷ (value.Variable (codes "J") 1) ∷ [])) } ∷ []) }
@@ -446,6 +595,8 @@ star_twice = record {
 
 abbrev pub too_tall : RuleFile
 too_tall = record {
+  version = 1;
+  selects = [];
   formulas = formulas_of_stored_tiny;
   stars =
       record { statement = 9; name = codes "AccessRoot"; params = (record { name = codes "A"; kind = kind.Stream } ∷ record { name = codes "J"; kind = kind.Preds } ∷ []); alternatives = (record { ranges = []; condition = None; body = (plan.Reference (codes "H2") ((value.Variable (codes "A") 0) ∷ (value.Variable (codes "J") 1) ∷ [])) } ∷ []) }
@@ -471,6 +622,8 @@ too_tall = record {
 
 abbrev pub too_wide : RuleFile
 too_wide = record {
+  version = 1;
+  selects = [];
   formulas = formulas_of_stored_tiny;
   stars =
       record { statement = 9; name = codes "AccessRoot"; params = (record { name = codes "A"; kind = kind.Stream } ∷ record { name = codes "J"; kind = kind.Preds } ∷ []); alternatives = (record { ranges = []; condition = None; body = (plan.Reference (codes "Sb") ((value.Variable (codes "A") 0) ∷ (value.Variable (codes "J") 1) ∷ [])) } ∷ record { ranges = []; condition = None; body = (plan.Reference (codes "Sb") ((value.Variable (codes "A") 0) ∷ (value.Variable (codes "J") 1) ∷ [])) } ∷ record { ranges = []; condition = None; body = (plan.Reference (codes "Sb") ((value.Variable (codes "A") 0) ∷ (value.Variable (codes "J") 1) ∷ [])) } ∷ record { ranges = []; condition = None; body = (plan.Reference (codes "Sb") ((value.Variable (codes "A") 0) ∷ (value.Variable (codes "J") 1) ∷ [])) } ∷ record { ranges = []; condition = None; body = (plan.Reference (codes "Sb") ((value.Variable (codes "A") 0) ∷ (value.Variable (codes "J") 1) ∷ [])) } ∷ record { ranges = []; condition = None; body = (plan.Reference (codes "Sb") ((value.Variable (codes "A") 0) ∷ (value.Variable (codes "J") 1) ∷ [])) } ∷ record { ranges = []; condition = None; body = (plan.Reference (codes "Sb") ((value.Variable (codes "A") 0) ∷ (value.Variable (codes "J") 1) ∷ [])) } ∷ record { ranges = []; condition = None; body = (plan.Reference (codes "Sb") ((value.Variable (codes "A") 0) ∷ (value.Variable (codes "J") 1) ∷ [])) } ∷ record { ranges = []; condition = None; body = (plan.Reference (codes "Sb") ((value.Variable (codes "A") 0) ∷ (value.Variable (codes "J") 1) ∷ [])) } ∷ record { ranges = []; condition = None; body = (plan.Reference (codes "Sb") ((value.Variable (codes "A") 0) ∷ (value.Variable (codes "J") 1) ∷ [])) } ∷ record { ranges = []; condition = None; body = (plan.Reference (codes "Sb") ((value.Variable (codes "A") 0) ∷ (value.Variable (codes "J") 1) ∷ [])) } ∷ record { ranges = []; condition = None; body = (plan.Reference (codes "Sb") ((value.Variable (codes "A") 0) ∷ (value.Variable (codes "J") 1) ∷ [])) } ∷ record { ranges = []; condition = None; body = (plan.Reference (codes "Sb") ((value.Variable (codes "A") 0) ∷ (value.Variable (codes "J") 1) ∷ [])) } ∷ record { ranges = []; condition = None; body = (plan.Reference (codes "Sb") ((value.Variable (codes "A") 0) ∷ (value.Variable (codes "J") 1) ∷ [])) } ∷ record { ranges = []; condition = None; body = (plan.Reference (codes "Sb") ((value.Variable (codes "A") 0) ∷ (value.Variable (codes "J") 1) ∷ [])) } ∷ record { ranges = []; condition = None; body = (plan.Reference (codes "Sc") ((value.Variable (codes "A") 0) ∷ (value.Variable (codes "J") 1) ∷ [])) } ∷ []) }
@@ -483,6 +636,8 @@ too_wide = record {
 
 abbrev pub unknown_in_condition : RuleFile
 unknown_in_condition = record {
+  version = 1;
+  selects = [];
   formulas = formulas_of_stored_tiny;
   stars =
       record { statement = 9; name = codes "AccessRoot"; params = (record { name = codes "A"; kind = kind.Stream } ∷ record { name = codes "J"; kind = kind.Preds } ∷ []); alternatives = (record { ranges = []; condition = None; body = (plan.Leaf flavour.AccessHeap ((value.Variable (codes "A") 0) ∷ (value.Variable (codes "J") 1) ∷ [])) } ∷ []) }
@@ -492,6 +647,8 @@ unknown_in_condition = record {
 
 abbrev pub unknown_in_input : RuleFile
 unknown_in_input = record {
+  version = 1;
+  selects = [];
   formulas = formulas_of_stored_tiny;
   stars =
       record { statement = 9; name = codes "AccessRoot"; params = (record { name = codes "A"; kind = kind.Stream } ∷ record { name = codes "J"; kind = kind.Preds } ∷ []); alternatives = (record { ranges = []; condition = None; body = (e.Unary flavour.Store (value.NoCols ∷ []) (plan.Leaf flavour.AccessHeap ((value.Variable (codes "A") 0) ∷ (value.Variable (codes "K") 255) ∷ []))) } ∷ []) }
@@ -501,6 +658,8 @@ unknown_in_input = record {
 
 abbrev pub unknown_in_range : RuleFile
 unknown_in_range = record {
+  version = 1;
+  selects = [];
   formulas = formulas_of_stored_tiny;
   stars =
       record { statement = 9; name = codes "AccessRoot"; params = (record { name = codes "A"; kind = kind.Stream } ∷ record { name = codes "J"; kind = kind.Preds } ∷ []); alternatives = (record { ranges = []; condition = None; body = (plan.Leaf flavour.AccessHeap ((value.Variable (codes "A") 0) ∷ (value.Variable (codes "J") 1) ∷ [])) } ∷ []) }
@@ -510,6 +669,8 @@ unknown_in_range = record {
 
 abbrev pub unknown_name : RuleFile
 unknown_name = record {
+  version = 1;
+  selects = [];
   formulas = formulas_of_stored_tiny;
   stars =
       record { statement = 9; name = codes "AccessRoot"; params = (record { name = codes "A"; kind = kind.Stream } ∷ record { name = codes "J"; kind = kind.Preds } ∷ []); alternatives = (record { ranges = []; condition = None; body = (plan.Leaf flavour.AccessHeap ((value.Variable (codes "A") 0) ∷ (value.Variable (codes "K") 255) ∷ [])) } ∷ []) }
@@ -519,6 +680,8 @@ unknown_name = record {
 
 abbrev pub unknown_star : RuleFile
 unknown_star = record {
+  version = 1;
+  selects = [];
   formulas = formulas_of_stored_tiny;
   stars =
       record { statement = 9; name = codes "AccessRoot"; params = (record { name = codes "A"; kind = kind.Stream } ∷ record { name = codes "J"; kind = kind.Preds } ∷ []); alternatives = (record { ranges = []; condition = None; body = (plan.Reference (codes "Other") ((value.Variable (codes "A") 0) ∷ (value.Variable (codes "J") 1) ∷ [])) } ∷ []) }
@@ -528,6 +691,8 @@ unknown_star = record {
 
 abbrev pub unknown_star_in_join : RuleFile
 unknown_star_in_join = record {
+  version = 1;
+  selects = [];
   formulas = formulas_of_stored_tiny;
   stars =
       record { statement = 9; name = codes "AccessRoot"; params = (record { name = codes "A"; kind = kind.Stream } ∷ record { name = codes "J"; kind = kind.Preds } ∷ []); alternatives = (record { ranges = []; condition = None; body = (plan.Leaf flavour.AccessHeap ((value.Variable (codes "A") 0) ∷ (value.Variable (codes "J") 1) ∷ [])) } ∷ []) }
@@ -537,6 +702,8 @@ unknown_star_in_join = record {
 
 abbrev pub wrong_count : RuleFile
 wrong_count = record {
+  version = 1;
+  selects = [];
   formulas = formulas_of_stored_tiny;
   stars =
       record { statement = 9; name = codes "AccessRoot"; params = (record { name = codes "A"; kind = kind.Stream } ∷ []); alternatives = (record { ranges = []; condition = None; body = (plan.Leaf flavour.AccessHeap ((value.Variable (codes "A") 0) ∷ value.NoPreds ∷ [])) } ∷ []) }
@@ -546,6 +713,8 @@ wrong_count = record {
 
 abbrev pub wrong_count_in_join : RuleFile
 wrong_count_in_join = record {
+  version = 1;
+  selects = [];
   formulas = formulas_of_stored_tiny;
   stars =
       record { statement = 9; name = codes "AccessRoot"; params = (record { name = codes "A"; kind = kind.Stream } ∷ record { name = codes "J"; kind = kind.Preds } ∷ []); alternatives = (record { ranges = []; condition = None; body = (plan.Leaf flavour.AccessHeap ((value.Variable (codes "A") 0) ∷ (value.Variable (codes "J") 1) ∷ [])) } ∷ []) }
@@ -556,6 +725,8 @@ wrong_count_in_join = record {
 
 abbrev pub wrong_count_of_arguments : RuleFile
 wrong_count_of_arguments = record {
+  version = 1;
+  selects = [];
   formulas = formulas_of_stored_tiny;
   stars =
       record { statement = 9; name = codes "AccessRoot"; params = (record { name = codes "A"; kind = kind.Stream } ∷ record { name = codes "J"; kind = kind.Preds } ∷ []); alternatives = (record { ranges = []; condition = None; body = (plan.Reference (codes "Other") ((value.Variable (codes "A") 0) ∷ [])) } ∷ []) }
@@ -566,6 +737,8 @@ wrong_count_of_arguments = record {
 
 abbrev pub wrong_count_of_join : RuleFile
 wrong_count_of_join = record {
+  version = 1;
+  selects = [];
   formulas = formulas_of_stored_tiny;
   stars =
       record { statement = 9; name = codes "AccessRoot"; params = (record { name = codes "A"; kind = kind.Stream } ∷ record { name = codes "J"; kind = kind.Preds } ∷ []); alternatives = (record { ranges = []; condition = None; body = (plan.Leaf flavour.AccessHeap ((value.Variable (codes "A") 0) ∷ (value.Variable (codes "J") 1) ∷ [])) } ∷ []) }
@@ -575,6 +748,8 @@ wrong_count_of_join = record {
 
 abbrev pub wrong_kind : RuleFile
 wrong_kind = record {
+  version = 1;
+  selects = [];
   formulas = formulas_of_stored_tiny;
   stars =
       record { statement = 9; name = codes "AccessRoot"; params = (record { name = codes "A"; kind = kind.Stream } ∷ record { name = codes "J"; kind = kind.Preds } ∷ []); alternatives = (record { ranges = []; condition = None; body = (plan.Leaf flavour.AccessHeap ((value.Variable (codes "A") 0) ∷ (value.Variable (codes "A") 0) ∷ [])) } ∷ []) }
@@ -584,6 +759,8 @@ wrong_kind = record {
 
 abbrev pub wrong_kind_in_condition : RuleFile
 wrong_kind_in_condition = record {
+  version = 1;
+  selects = [];
   formulas = formulas_of_stored_tiny;
   stars =
       record { statement = 9; name = codes "AccessRoot"; params = (record { name = codes "A"; kind = kind.Stream } ∷ record { name = codes "J"; kind = kind.Preds } ∷ []); alternatives = (record { ranges = []; condition = None; body = (plan.Leaf flavour.AccessHeap ((value.Variable (codes "A") 0) ∷ (value.Variable (codes "J") 1) ∷ [])) } ∷ []) }
@@ -593,6 +770,8 @@ wrong_kind_in_condition = record {
 
 abbrev pub wrong_kind_in_glue : RuleFile
 wrong_kind_in_glue = record {
+  version = 1;
+  selects = [];
   formulas = formulas_of_stored_tiny;
   stars =
       record { statement = 9; name = codes "AccessRoot"; params = (record { name = codes "A"; kind = kind.Stream } ∷ record { name = codes "J"; kind = kind.Preds } ∷ []); alternatives = (record { ranges = []; condition = None; body = (plan.Leaf flavour.AccessHeap ((value.Variable (codes "A") 0) ∷ (value.Variable (codes "J") 1) ∷ [])) } ∷ []) }
@@ -602,6 +781,8 @@ wrong_kind_in_glue = record {
 
 abbrev pub wrong_kind_in_input : RuleFile
 wrong_kind_in_input = record {
+  version = 1;
+  selects = [];
   formulas = formulas_of_stored_tiny;
   stars =
       record { statement = 9; name = codes "AccessRoot"; params = (record { name = codes "A"; kind = kind.Stream } ∷ record { name = codes "J"; kind = kind.Preds } ∷ []); alternatives = (record { ranges = []; condition = None; body = (e.Unary flavour.Store (value.NoCols ∷ []) (plan.Leaf flavour.AccessHeap ((value.Variable (codes "A") 0) ∷ (value.Variable (codes "A") 0) ∷ []))) } ∷ []) }
@@ -611,6 +792,8 @@ wrong_kind_in_input = record {
 
 abbrev pub wrong_kind_in_range : RuleFile
 wrong_kind_in_range = record {
+  version = 1;
+  selects = [];
   formulas = formulas_of_stored_tiny;
   stars =
       record { statement = 9; name = codes "AccessRoot"; params = (record { name = codes "A"; kind = kind.Stream } ∷ record { name = codes "J"; kind = kind.Preds } ∷ []); alternatives = (record { ranges = []; condition = None; body = (plan.Leaf flavour.AccessHeap ((value.Variable (codes "A") 0) ∷ (value.Variable (codes "J") 1) ∷ [])) } ∷ []) }
@@ -620,6 +803,8 @@ wrong_kind_in_range = record {
 
 abbrev pub wrong_kind_of_argument : RuleFile
 wrong_kind_of_argument = record {
+  version = 1;
+  selects = [];
   formulas = formulas_of_stored_tiny;
   stars =
       record { statement = 9; name = codes "AccessRoot"; params = (record { name = codes "A"; kind = kind.Stream } ∷ record { name = codes "J"; kind = kind.Preds } ∷ []); alternatives = (record { ranges = []; condition = None; body = (plan.Reference (codes "Other") ((value.Variable (codes "J") 1) ∷ (value.Variable (codes "J") 1) ∷ [])) } ∷ []) }
@@ -630,6 +815,8 @@ wrong_kind_of_argument = record {
 
 abbrev pub wrong_kind_of_bracket : RuleFile
 wrong_kind_of_bracket = record {
+  version = 1;
+  selects = [];
   formulas = formulas_of_stored_tiny;
   stars =
       record { statement = 9; name = codes "AccessRoot"; params = (record { name = codes "A"; kind = kind.Stream } ∷ record { name = codes "J"; kind = kind.Preds } ∷ []); alternatives = (record { ranges = []; condition = None; body = (plan.Leaf flavour.AccessHeap ((value.Variable (codes "A") 0) ∷ (value.Variable (codes "J") 1) ∷ [])) } ∷ []) }
@@ -639,6 +826,8 @@ wrong_kind_of_bracket = record {
 
 abbrev pub wrong_kind_of_join : RuleFile
 wrong_kind_of_join = record {
+  version = 1;
+  selects = [];
   formulas = formulas_of_stored_tiny;
   stars =
       record { statement = 9; name = codes "AccessRoot"; params = (record { name = codes "A"; kind = kind.Stream } ∷ record { name = codes "J"; kind = kind.Preds } ∷ []); alternatives = (record { ranges = []; condition = None; body = (plan.Leaf flavour.AccessHeap ((value.Variable (codes "A") 0) ∷ (value.Variable (codes "J") 1) ∷ [])) } ∷ []) }
@@ -648,6 +837,8 @@ wrong_kind_of_join = record {
 
 abbrev pub wrong_kind_of_root : RuleFile
 wrong_kind_of_root = record {
+  version = 1;
+  selects = [];
   formulas = formulas_of_stored_tiny;
   stars =
       record { statement = 9; name = codes "AccessRoot"; params = (record { name = codes "A"; kind = kind.Stream } ∷ record { name = codes "J"; kind = kind.Cols } ∷ []); alternatives = (record { ranges = []; condition = None; body = (plan.Leaf flavour.AccessHeap ((value.Variable (codes "A") 0) ∷ value.NoPreds ∷ [])) } ∷ []) }
@@ -657,6 +848,8 @@ wrong_kind_of_root = record {
 
 abbrev pub wrong_kind_of_set : RuleFile
 wrong_kind_of_set = record {
+  version = 1;
+  selects = [];
   formulas = formulas_of_stored_tiny;
   stars =
       record { statement = 9; name = codes "AccessRoot"; params = (record { name = codes "A"; kind = kind.Stream } ∷ record { name = codes "J"; kind = kind.Preds } ∷ []); alternatives = (record { ranges = []; condition = None; body = (plan.Leaf flavour.AccessHeap ((value.Variable (codes "A") 0) ∷ (value.Variable (codes "J") 1) ∷ [])) } ∷ []) }

@@ -429,3 +429,28 @@ pub fn satisfies_of_colleagues_under_standard()
 pub fn canon_of_colleagues_under_standard()
     ensures { AreCanonicalAs query.colleagues row.canon_of_colleagues_under_standard }
 {}
+
+/// The rows of `access_index` for `two_indexes.query`, with the costs of `intersect.rules`.
+pub fn access_index_of_two_indexes_under_intersect()
+    ensures { StepsAs query.two_indexes rules.intersect row.access_index_of_two_indexes_under_intersect }
+{}
+
+/// The rows of `intersect` for `two_indexes.query`, with the costs of `intersect.rules`.
+pub fn intersect_of_two_indexes_under_intersect()
+    ensures { StepsAs query.two_indexes rules.intersect row.intersect_of_two_indexes_under_intersect }
+{}
+
+/// The rows of `get` for `two_indexes.query`, with the costs of `intersect.rules`.
+pub fn get_of_two_indexes_under_intersect()
+    ensures { StepsAs query.two_indexes rules.intersect row.get_of_two_indexes_under_intersect }
+{}
+
+/// The rows of `access_heap` for `cities.query`, with the costs of `intersect.rules`.
+pub fn access_heap_of_cities_under_intersect()
+    ensures { StepsAs query.cities rules.intersect row.access_heap_of_cities_under_intersect }
+{}
+
+/// The rows of `intersect` for `cities.query`, with the costs of `intersect.rules`.
+pub fn intersect_of_cities_under_intersect()
+    ensures { StepsAs query.cities rules.intersect row.intersect_of_cities_under_intersect }
+{}

@@ -1,6 +1,6 @@
 // Written by tools/worked_plans.
 // What the definitions say of each derivation in examples/plans.
-ghost use Rattle.worked_plans.specs.Claims.{HasNumbers, HasNumbersFor, IsInvalidAt};
+ghost use Rattle.worked_plans.specs.Claims.{HasNumbers, HasNumbersFor, IsInvalidAt, by};
 ghost use Rattle.worked_plans.specs.Derivations as tree;
 ghost use Rattle.worked_plans.specs.Queries as query;
 ghost use Rattle.worked_plans.specs.RuleFiles as rules;
@@ -8,6 +8,11 @@ ghost use Rattle.worked_plans.specs.RuleFiles as rules;
 /// The STAR has one alternative. Under `heaps.rules`, for `ids_of_department.query`.
 pub fn alternative_beyond()
     ensures { IsInvalidAt 3 query.ids_of_department rules.heaps tree.alternative_beyond }
+{}
+
+/// The rows that two indexes share are found, and read. Under `intersect.rules`, for `two_indexes.query`.
+pub fn both_indexes()
+    ensures { HasNumbers (by query.two_indexes rules.intersect) rules.intersect tree.both_indexes 385 385 5 }
 {}
 
 /// Both tables are stored. Under `stored_heaps.rules`, for `cities.query`.
@@ -175,6 +180,11 @@ pub fn not_shipped()
     ensures { IsInvalidAt 1 query.shipped rules.heaps tree.not_shipped }
 {}
 
+/// An index isn't intersected with itself: the condition is false. Under `intersect.rules`, for `two_indexes.query`.
+pub fn one_index_twice()
+    ensures { IsInvalidAt 4 (by query.two_indexes rules.intersect) rules.intersect tree.one_index_twice }
+{}
+
 /// Another access than the rule's. Under `standard.rules`, for `ids_of_department.query`.
 pub fn other_access()
     ensures { IsInvalidAt 4 query.ids_of_department rules.standard tree.other_access }
@@ -313,6 +323,11 @@ pub fn stored_without_need()
 /// The same over 1000 rows on 50 pages. Under `tiny.rules`, for `t_filled.query`.
 pub fn thousand_rows()
     ensures { HasNumbers query.t_filled rules.tiny tree.thousand_rows 1500 1500 1000 }
+{}
+
+/// The rule file says that a constant is twice as frequent. Under `skewed.rules`, for `ids_of_department.query`.
+pub fn twice_as_frequent()
+    ensures { HasNumbers (by query.ids_of_department rules.skewed) rules.skewed tree.twice_as_frequent 2000 2000 200 }
 {}
 
 /// The order that is asked isn't there. Under `standard.rules`, for `ids_by_department.query`.

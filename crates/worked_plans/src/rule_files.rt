@@ -22,6 +22,11 @@ pub fn accepted_heaps()
     ensures { HasNoFault rules.heaps }
 {}
 
+/// `intersect.rules` has no fault that a test finds.
+pub fn accepted_intersect()
+    ensures { HasNoFault rules.intersect }
+{}
+
 /// `merge.rules` has no fault that a test finds.
 pub fn accepted_merge()
     ensures { HasNoFault rules.merge }
@@ -30,6 +35,11 @@ pub fn accepted_merge()
 /// `pushdown.rules` has no fault that a test finds.
 pub fn accepted_pushdown()
     ensures { HasNoFault rules.pushdown }
+{}
+
+/// `skewed.rules` has no fault that a test finds.
+pub fn accepted_skewed()
+    ensures { HasNoFault rules.skewed }
 {}
 
 /// `standard.rules` has no fault that a test finds.
@@ -135,6 +145,11 @@ pub fn refused_rescan_not_monotone()
 /// `same_names.rules`: name defined twice in statement 9.
 pub fn refused_same_names()
     ensures { HasFault rules.same_names (fault.Twice 9) }
+{}
+
+/// `selectivity_twice.rules`: name defined twice in statement 27.
+pub fn refused_selectivity_twice()
+    ensures { HasFault rules.selectivity_twice (fault.Twice 27) }
 {}
 
 /// `star_twice.rules`: name defined twice in statement 11.

@@ -19,6 +19,7 @@ use Rattle.spelling.specs.Firsts.{NoneHas}
 use Rattle.spelling.specs.Limits.{HasGreatNumber, HasLongWord}
 use Rattle.catalogue.specs.Catalogues.{TablePart, CatalogueStatement, Site, Table, catalogue_lexemes, table_from, catalogue_of}
 use Rattle.query_graph.specs.Queries.{QueryStatement, only_column, query_lexemes, query_of}
+use Rattle.star_model.specs.Selectivity.{weighed}
 use Rattle.rule_grammar.specs.Tiny.{tiny_rules}
 use Rattle.catalogue.specs.Defined.{NamesUnknown, DefinesTwice}
 use Rattle.catalogue.specs.Beyond.{Beyond, IsBeyond, IsFileName}
@@ -197,7 +198,7 @@ query_says = record {
 }
 
 query_means : query_of catalogue selection ≡ Some query
-unfolding query_of
+unfolding query_of weighed
 query_means = refl
 
 query_formed : WellFormedQuery query
@@ -208,7 +209,7 @@ query_formed = record {
   few_predicates = omega arith;
   few_in_order = omega arith;
   tables = refl;
-  short_names = refl;
+  names = refl;
   quantifiers_differ = refl;
   select = refl;
   order = refl;

@@ -35,4 +35,4 @@ returns-in-None c = λ text accepted says.
     let names = names_clear c.args.catalogue.now (said c.args.words.now) (sym c.in_ok-fault.ensures ∙ c.in_default.is) in
     let keeps = limits_kept c.args.words.now c.in_default-first_limit.ensures in
     accepted_query c.args.catalogue.now text (said c.args.words.now) accepted says names.0 names.1 keeps c.in_ok-query.query c.in_ok-query.ensures.means c.in-None.ensures
-    (formed_query c.args.catalogue.now (said c.args.words.now) c.in_ok-query.query c.requires says.stands names.1 keeps c.in_ok-query.ensures.means c.in-None.ensures)
+    (formed_query c.args.catalogue.now text (said c.args.words.now) c.in_ok-query.query c.requires says names.1 keeps c.in_ok-query.ensures.means c.in-None.ensures)

@@ -1,7 +1,11 @@
 use Rattle.star_check.specs.Passing.{NamesPass}
 use Rattle.star_check.proofs.Orders.{passes_none}
 use Rattle.star_check.proofs.Owned.{names_are_own, names_are_known}
+use Rattle.star_check.proofs.Formulas.{few_nodes}
 use Rattle.star_check.proofs.faults.first_fault.Goals as goal
+
+pub fault_of_formulas-requires-clause-few : goal.fault_of_formulas-requires-clause-few
+fault_of_formulas-requires-clause-few c = few_nodes c.args.rules.now.version c.args.rules.now.formulas c.requires.formulas
 
 pub fault_of_references-requires-clause-own : goal.fault_of_references-requires-clause-own
 fault_of_references-requires-clause-own c =

@@ -4,7 +4,7 @@ use Rattle.stars_core.specs.declared.status.Ending.TheVariants as endings
 use Rattle.stars_core.specs.CommandLine.{bytes_of, command_of}
 use Rattle.stars_core.specs.Lines.{status_of}
 use Rattle.stars_core.proofs.Derived.{complete, refused_exactly}
-use Rattle.stars_core.proofs.Causes.{answered_at, output_at, part_at, calls_kept}
+use Rattle.stars_core.proofs.Causes.{answered_at, output_at, part_at, shelf_kept}
 use Rattle.stars_core.proofs.top.stars.Goals as goal
 
 pub returns-in-Done-clause-answer : goal.returns-in-Done-clause-answer
@@ -28,7 +28,7 @@ returns-in-Ok-emit-clause-refused g c =
 pub returns-in-Ok-clause-answer : goal.returns-in-Ok-clause-answer
 returns-in-Ok-clause-answer g c =
     part_at (bytes_of c.args.words.now) (command_of (bytes_of c.args.words.now)) _ _ _ _ _ _ c.in-Ok.answer refl c.in-Ok.ensures
-    c.in-Err-emit.ensures.puts c.in-Err-emit.ensures.part c.in-Err-emit.ensures.failed c.tell.ensures
+    c.in-Err-emit.ensures.puts c.in-Err-emit.ensures.part c.in-Err-emit.ensures.failed c.tell.ensures.told
 
 pub returns-in-Ok-clause-refused : goal.returns-in-Ok-clause-refused
 returns-in-Ok-clause-refused g c =
@@ -38,13 +38,13 @@ pub returns-clause-answer : goal.returns-clause-answer
 returns-clause-answer g c =
     rw c.status.ensures
     (answered_at (bytes_of c.args.words.now) c.in-Err.refusal (command_of (bytes_of c.args.words.now)) _ _ (g.O.Sink.state c.args.out.now) _ _ refl c.in-Err.ensures
-    (rw c.line.ensures at c.tell-in-Err.ensures))
+    (rw c.line.ensures at c.tell-in-Err.ensures.told))
 
 pub returns-clause-refused : goal.returns-clause-refused
 returns-clause-refused g c =
     let answered =
     answered_at (bytes_of c.args.words.now) c.in-Err.refusal (command_of (bytes_of c.args.words.now)) _ _ (g.O.Sink.state c.args.out.now) _ _ refl c.in-Err.ensures
-    (rw c.line.ensures at c.tell-in-Err.ensures)
+    (rw c.line.ensures at c.tell-in-Err.ensures.told)
     in
     rw c.status.ensures
     (refused_exactly (status_of c.in-Err.refusal) (bytes_of c.args.words.now) _ _ (g.O.Sink.state c.args.out.now) (g.O.Sink.state c.args.out.now) _ _ answered)
@@ -65,10 +65,10 @@ pub returns-clause-complete : goal.returns-clause-complete
 returns-clause-complete g c =
     let answered =
     answered_at (bytes_of c.args.words.now) c.in-Err.refusal (command_of (bytes_of c.args.words.now)) _ _ (g.O.Sink.state c.args.out.now) _ _ refl c.in-Err.ensures
-    (rw c.line.ensures at c.tell-in-Err.ensures)
+    (rw c.line.ensures at c.tell-in-Err.ensures.told)
     in
     rw c.status.ensures
     (complete (status_of c.in-Err.refusal) (bytes_of c.args.words.now) _ _ (g.O.Sink.state c.args.out.now) (g.O.Sink.state c.args.out.now) _ _ answered)
 
-pub returns-clause-calls : goal.returns-clause-calls
-returns-clause-calls g c = calls_kept (bytes_of c.args.words.now) (command_of (bytes_of c.args.words.now)) _ _ _ c.in-Err.ensures
+pub returns-clause-shelf : goal.returns-clause-shelf
+returns-clause-shelf g c = shelf_kept (bytes_of c.args.words.now) (command_of (bytes_of c.args.words.now)) _ _ _ c.in-Err.ensures
