@@ -5,8 +5,14 @@ use Rattle.std.specs.Prelude.{ℕ, List, codes}
 abbrev pub rules_hash : List ℕ
 rules_hash = codes "# Hash joins alone, and so no cross products.\ncost ACCESS_HEAP = 10 * pages + cpu * rows;\nrescan ACCESS_HEAP = 10 * pages + cpu * rows;\ncost ACCESS_INDEX = 10 + 10 * pages * card / rows + cpu * card;\nrescan ACCESS_INDEX = 10 + 10 * pages * card / rows + cpu * card;\ncost GET = cost1 + 10 * card1 + cpu * card1 * preds;\nrescan GET = rescan1 + 10 * card1 + cpu * card1 * preds;\ncost FILTER = cost1 + cpu * card1 * preds;\nrescan FILTER = rescan1 + cpu * card1 * preds;\ncost SORT = cost1 + 4 * cpu * card1;\nrescan SORT = rescan1 + 4 * cpu * card1;\ncost STORE = cost1 + 2 * cpu * card1;\nrescan STORE = cpu * card1;\ncost SHIP = cost1 + net * card1 * width1;\nrescan SHIP = rescan1 + net * card1 * width1;\ncost PROBE = cost1 + cpu * (1 + card);\nrescan PROBE = cpu * (1 + card);\ncost JOIN_NL = cost1 + cost2 + (card1 - 1) * rescan2;\nrescan JOIN_NL = rescan1 + card1 * rescan2;\ncost JOIN_MERGE = cost1 + cost2 + cpu * (card1 + card2);\nrescan JOIN_MERGE = rescan1 + rescan2 + cpu * (card1 + card2);\ncost JOIN_HASH = cost1 + cost2 + cpu * (card1 + 2 * card2);\nrescan JOIN_HASH = rescan1 + rescan2 + cpu * (card1 + 2 * card2);\nstar AccessRoot(A stream, J preds) = give ACCESS_HEAP(A, union(inside(tables(A)), J));\nstar JoinRoot(A stream, B stream, J preds) = when not(empty(equalities(between(tables(A), tables(B))))) give JOIN_HASH(Glue(A, J), Glue(B, J), equalities(between(tables(A), tables(B))), minus(between(tables(A), tables(B)), equalities(between(tables(A), tables(B)))));\n"
 
+abbrev pub rules_intersect : List ℕ
+rules_intersect = codes "# Two indexes of a table are read, and the rows that both give are fetched.\nversion 2;\ncost ACCESS_HEAP = 10 * pages + cpu * rows;\nrescan ACCESS_HEAP = 10 * pages + cpu * rows;\ncost ACCESS_INDEX = 10 + 10 * pages * card / rows + cpu * card;\nrescan ACCESS_INDEX = 10 + 10 * pages * card / rows + cpu * card;\ncost GET = cost1 + 10 * card1 + cpu * card1 * preds;\nrescan GET = rescan1 + 10 * card1 + cpu * card1 * preds;\ncost FILTER = cost1 + cpu * card1 * preds;\nrescan FILTER = rescan1 + cpu * card1 * preds;\ncost SORT = cost1 + 4 * cpu * card1;\nrescan SORT = rescan1 + 4 * cpu * card1;\ncost STORE = cost1 + 2 * cpu * card1;\nrescan STORE = cpu * card1;\ncost SHIP = cost1 + net * card1 * width1;\nrescan SHIP = rescan1 + net * card1 * width1;\ncost PROBE = cost1 + cpu * (1 + card);\nrescan PROBE = cpu * (1 + card);\ncost JOIN_NL = cost1 + cost2 + (card1 - 1) * rescan2;\nrescan JOIN_NL = rescan1 + card1 * rescan2;\ncost JOIN_MERGE = cost1 + cost2 + cpu * (card1 + card2);\nrescan JOIN_MERGE = rescan1 + rescan2 + cpu * (card1 + card2);\ncost JOIN_HASH = cost1 + cost2 + cpu * (card1 + 2 * card2);\nrescan JOIN_HASH = rescan1 + rescan2 + cpu * (card1 + 2 * card2);\nstar JoinRoot(A stream, B stream, J preds) = give JOIN_NL(Glue(A, J), Glue(B, J), between(tables(A), tables(B)));\ncost INTERSECT = cost1 + cost2 + cpu * (card1 + card2);\nrescan INTERSECT = rescan1 + rescan2 + cpu * (card1 + card2);\nstar AccessRoot(A stream, J preds) = give Paths(A, union(inside(tables(A)), J));\nstar Paths(A stream, P preds) =\n    give ACCESS_HEAP(A, P)\n  | for x in indexes(A) give GET(ACCESS_INDEX(A, x, indexable(A, x, P)), A, minus(P, indexable(A, x, P)))\n  | for x in indexes(A) for y in indexes(A) when not(same(x, y))\n      give GET(INTERSECT(ACCESS_INDEX(A, x, indexable(A, x, P)), ACCESS_INDEX(A, y, indexable(A, y, P))), A,\n        minus(P, union(indexable(A, x, P), indexable(A, y, P))));\n"
+
 abbrev pub rules_merge : List ℕ
 rules_merge = codes "# Merge joins alone.\ncost ACCESS_HEAP = 10 * pages + cpu * rows;\nrescan ACCESS_HEAP = 10 * pages + cpu * rows;\ncost ACCESS_INDEX = 10 + 10 * pages * card / rows + cpu * card;\nrescan ACCESS_INDEX = 10 + 10 * pages * card / rows + cpu * card;\ncost GET = cost1 + 10 * card1 + cpu * card1 * preds;\nrescan GET = rescan1 + 10 * card1 + cpu * card1 * preds;\ncost FILTER = cost1 + cpu * card1 * preds;\nrescan FILTER = rescan1 + cpu * card1 * preds;\ncost SORT = cost1 + 4 * cpu * card1;\nrescan SORT = rescan1 + 4 * cpu * card1;\ncost STORE = cost1 + 2 * cpu * card1;\nrescan STORE = cpu * card1;\ncost SHIP = cost1 + net * card1 * width1;\nrescan SHIP = rescan1 + net * card1 * width1;\ncost PROBE = cost1 + cpu * (1 + card);\nrescan PROBE = cpu * (1 + card);\ncost JOIN_NL = cost1 + cost2 + (card1 - 1) * rescan2;\nrescan JOIN_NL = rescan1 + card1 * rescan2;\ncost JOIN_MERGE = cost1 + cost2 + cpu * (card1 + card2);\nrescan JOIN_MERGE = rescan1 + rescan2 + cpu * (card1 + card2);\ncost JOIN_HASH = cost1 + cost2 + cpu * (card1 + 2 * card2);\nrescan JOIN_HASH = rescan1 + rescan2 + cpu * (card1 + 2 * card2);\nstar AccessRoot(A stream, J preds) = give ACCESS_HEAP(A, union(inside(tables(A)), J));\nstar JoinRoot(A stream, B stream, J preds) = give Keyed(A, B, J, equalities(between(tables(A), tables(B))));\nstar Keyed(A stream, B stream, J preds, M preds) = when not(empty(M)) give JOIN_MERGE(Glue(A[order keys(M, tables(A))], J), Glue(B[order keys(M, tables(B))], J), M, none);\n"
+
+abbrev pub rules_skewed : List ℕ
+rules_skewed = codes "# A constant that is asked for is twice as frequent as the others.\nversion 2;\ncost ACCESS_HEAP = 10 * pages + cpu * rows;\nrescan ACCESS_HEAP = 10 * pages + cpu * rows;\ncost ACCESS_INDEX = 10 + 10 * pages * card / rows + cpu * card;\nrescan ACCESS_INDEX = 10 + 10 * pages * card / rows + cpu * card;\ncost GET = cost1 + 10 * card1 + cpu * card1 * preds;\nrescan GET = rescan1 + 10 * card1 + cpu * card1 * preds;\ncost FILTER = cost1 + cpu * card1 * preds;\nrescan FILTER = rescan1 + cpu * card1 * preds;\ncost SORT = cost1 + 4 * cpu * card1;\nrescan SORT = rescan1 + 4 * cpu * card1;\ncost STORE = cost1 + 2 * cpu * card1;\nrescan STORE = cpu * card1;\ncost SHIP = cost1 + net * card1 * width1;\nrescan SHIP = rescan1 + net * card1 * width1;\ncost PROBE = cost1 + cpu * (1 + card);\nrescan PROBE = cpu * (1 + card);\ncost JOIN_NL = cost1 + cost2 + (card1 - 1) * rescan2;\nrescan JOIN_NL = rescan1 + card1 * rescan2;\ncost JOIN_MERGE = cost1 + cost2 + cpu * (card1 + card2);\nrescan JOIN_MERGE = rescan1 + rescan2 + cpu * (card1 + card2);\ncost JOIN_HASH = cost1 + cost2 + cpu * (card1 + 2 * card2);\nrescan JOIN_HASH = rescan1 + rescan2 + cpu * (card1 + 2 * card2);\nstar AccessRoot(A stream, J preds) = give ACCESS_HEAP(A, union(inside(tables(A)), J));\nstar JoinRoot(A stream, B stream, J preds) = give JOIN_NL(Glue(A, J), Glue(B, J), between(tables(A), tables(B)));\nselectivity EQ_CONST = 2 per distinct1;\n"
 
 abbrev pub rules_standard : List ℕ
 rules_standard = codes "# The standard repertoire: heap and index accesses, joins at each site, by nested loops, merging, hashing and probing.\ncost ACCESS_HEAP = 10 * pages + cpu * rows;\nrescan ACCESS_HEAP = 10 * pages + cpu * rows;\ncost ACCESS_INDEX = 10 + 10 * pages * card / rows + cpu * card;\nrescan ACCESS_INDEX = 10 + 10 * pages * card / rows + cpu * card;\ncost GET = cost1 + 10 * card1 + cpu * card1 * preds;\nrescan GET = rescan1 + 10 * card1 + cpu * card1 * preds;\ncost FILTER = cost1 + cpu * card1 * preds;\nrescan FILTER = rescan1 + cpu * card1 * preds;\ncost SORT = cost1 + 4 * cpu * card1;\nrescan SORT = rescan1 + 4 * cpu * card1;\ncost STORE = cost1 + 2 * cpu * card1;\nrescan STORE = cpu * card1;\ncost SHIP = cost1 + net * card1 * width1;\nrescan SHIP = rescan1 + net * card1 * width1;\ncost PROBE = cost1 + cpu * (1 + card);\nrescan PROBE = cpu * (1 + card);\ncost JOIN_NL = cost1 + cost2 + (card1 - 1) * rescan2;\nrescan JOIN_NL = rescan1 + card1 * rescan2;\ncost JOIN_MERGE = cost1 + cost2 + cpu * (card1 + card2);\nrescan JOIN_MERGE = rescan1 + rescan2 + cpu * (card1 + card2);\ncost JOIN_HASH = cost1 + cost2 + cpu * (card1 + 2 * card2);\nrescan JOIN_HASH = rescan1 + rescan2 + cpu * (card1 + 2 * card2);\nstar AccessRoot(A stream, J preds) =\n    give ACCESS_HEAP(A, union(inside(tables(A)), J))\n  | for x in indexes(A) give ACCESS_INDEX(A, x, indexable(A, x, union(inside(tables(A)), J)))\n  | for x in indexes(A) give GET(ACCESS_INDEX(A, x, indexable(A, x, union(inside(tables(A)), J))), A,\n      minus(union(inside(tables(A)), J), indexable(A, x, union(inside(tables(A)), J))));\nstar JoinRoot(A stream, B stream, J preds) =\n    for s in sites give JoinAt(A[site s], B[site s], J, between(tables(A), tables(B)));\nstar JoinAt(A stream, B stream, J preds, P preds) =\n    give JOIN_NL(Glue(A, J), Glue(B, union(J, P)), none)\n  | give JOIN_NL(Glue(A, J), Glue(B[temp], J), P)\n  | when not(empty(equalities(P))) give Keyed(A, B, J, P, equalities(P));\nstar Keyed(A stream, B stream, J preds, P preds, M preds) =\n    give JOIN_MERGE(Glue(A[order keys(M, tables(A))], J), Glue(B[order keys(M, tables(B))], J), M, minus(P, M))\n  | give JOIN_HASH(Glue(A, J), Glue(B, J), M, minus(P, M))\n  | give JOIN_NL(Glue(A, J), PROBE(Glue(B[path keys(M, tables(B))], none), keys(M, tables(B)),\n      union(P, meet(J, crossing(tables(B))))), none);\n"
@@ -34,6 +40,9 @@ query_shipped = codes "# over two_sites.catalogue\nselect t.k from t order by t.
 
 abbrev pub query_t : List ℕ
 query_t = codes "# over t.catalogue\nselect t.a from t;\n"
+
+abbrev pub derivation_both_indexes : List ℕ
+derivation_both_indexes = codes "# The rows that two indexes share are found, and read.\n# intersect.rules two_indexes.query\n# cost 385 rescan 385 card 5\nglue;\ngoal {1} pushed {};\nref AccessRoot 1;\nref Paths 3 1 2;\nGET;\nINTERSECT;\nACCESS_INDEX;\nACCESS_INDEX;\n"
 
 abbrev pub derivation_false_condition : List ℕ
 derivation_false_condition = codes "# The reference's condition is false, since no equality links the tables.\n# hash.rules cross_product.query\n# not derived at node 3\nglue;\ngoal {1, 2} pushed {} split {1} {2};\nref JoinRoot 1;\nJOIN_HASH;\nglue;\ngoal {1} pushed {};\nref AccessRoot 1;\nACCESS_HEAP;\nglue;\ngoal {2} pushed {};\nref AccessRoot 1;\nACCESS_HEAP;\n"

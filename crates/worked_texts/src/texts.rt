@@ -20,9 +20,19 @@ pub fn rules_hash()
     ensures { SpellsRules text.rules_hash rule_file.hash }
 {}
 
+/// The text `examples/intersect.rules`.
+pub fn rules_intersect()
+    ensures { SpellsRules text.rules_intersect rule_file.intersect }
+{}
+
 /// The text `examples/merge.rules`.
 pub fn rules_merge()
     ensures { SpellsRules text.rules_merge rule_file.merge }
+{}
+
+/// The text `examples/skewed.rules`.
+pub fn rules_skewed()
+    ensures { SpellsRules text.rules_skewed rule_file.skewed }
 {}
 
 /// The text `examples/standard.rules`.
@@ -68,6 +78,11 @@ pub fn query_shipped()
 /// The text `examples/t.query`.
 pub fn query_t()
     ensures { SpellsQuery catalogue.t text.query_t query.t }
+{}
+
+/// The text `examples/plans/both_indexes.derivation`.
+pub fn derivation_both_indexes()
+    ensures { SpellsDerivation text.derivation_both_indexes tree.both_indexes }
 {}
 
 /// The text `examples/plans/false_condition.derivation`.

@@ -11,9 +11,10 @@ use Rattle.rule_grammar.specs.Values.{condition_lexemes}
 use Rattle.star_model.specs.WellFormedRules.{IsCondition}
 use Rattle.rule_grammar.specs.Rules.{plan_lexemes}
 use Rattle.star_model.specs.WellFormedRules.{IsPlan}
+use Rattle.star_model.specs.Monotone.{nodes}
 use Rattle.rule_grammar.specs.Rules.{in_order}
 use Rattle.worked_texts.proofs.texts.laid_out_rules.Goals as goal
 
 pub returns : goal.returns
-unfolding layout digits words_of rank_of formula_lexeme value_lexemes IsValue condition_lexemes IsCondition plan_lexemes IsPlan in_order
+unfolding layout digits words_of rank_of formula_lexeme value_lexemes IsValue condition_lexemes IsCondition plan_lexemes IsPlan nodes in_order
 returns c = refl

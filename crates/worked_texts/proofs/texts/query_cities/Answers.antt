@@ -6,8 +6,10 @@ use Rattle.spelling.specs.Lexemes.{statements_in}
 use Rattle.sb_text.specs.Tokens.{lexed}
 use Rattle.sb_text.specs.Tokens.{lexed_after}
 use Rattle.query_graph.specs.Queries.{query_of}
+use Rattle.star_model.specs.Selectivity.{weighed}
+use Rattle.star_model.specs.Selectivity.{select_of}
 use Rattle.worked_texts.proofs.texts.query_cities.Goals as goal
 
 pub returns : goal.returns
-unfolding statements_in lexed lexed_after query_of
+unfolding statements_in lexed lexed_after query_of weighed select_of
 returns c = record { statement = record { select = (record { quantifier = codes "e"; column = codes "id" } ∷ record { quantifier = codes "d"; column = codes "city" } ∷ []); items = (record { table = codes "dept"; name = Some (codes "d") } ∷ record { table = codes "emp"; name = Some (codes "e") } ∷ []); comparisons = (record { left = record { quantifier = codes "e"; column = codes "dno" }; cmp = cmp.Eq; right = OfColumn (record { quantifier = codes "d"; column = codes "id" }) } ∷ []); order = []; site = None }; are = record { all_tokens = refl; are = refl }; stands = record { some_columns = tt; some_items = tt; select = (refl, (refl, tt)); items = ((refl, refl), ((refl, refl), tt)); comparisons = ((refl, refl), tt); order = tt; site = tt }; means = refl }
