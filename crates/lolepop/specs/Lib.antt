@@ -4,6 +4,7 @@ pub mod UsedColumns
 pub mod PlanTrees
 pub mod PlanTreeCode
 pub mod Nodes
+pub mod Below
 pub mod NodeSizes
 pub mod Applying
 pub mod Traces

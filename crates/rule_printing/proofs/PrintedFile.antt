@@ -3,9 +3,9 @@ use Rattle.std.proofs.Common.{◌≡◌, ℕ, suc, ◌+◌, ◌<◌, ◌≤◌, 
 use Rattle.std.proofs.lemmas.List.{drop_all}
 use Rattle.star_model.specs.declared.rules.RuleFile.{RuleFile}
 use Rattle.spelling.specs.Lexemes.{Lexeme}
-use Rattle.rule_grammar.specs.Rules.{definition_lexemes, definitions, rule_lexemes, canonical}
+use Rattle.rule_grammar.specs.Rules.{version_statements, definition_lexemes, definitions, rule_lexemes, canonical}
 use Rattle.spelling.specs.Writing.{Written, whole, puts, ended, lines}
-use Rattle.spelling.proofs.Laws.{lines-more, lines-none, lines-layout}
+use Rattle.spelling.proofs.Laws.{lines-more, lines-none, lines-append, lines-layout}
 use Rattle.rule_printing.specs.declared.print.Statement.{Statement}
 use Rattle.rule_printing.specs.Printing.{definition_of, statement_lexemes}
 
@@ -28,7 +28,10 @@ lexemes_are [] = refl
 lexemes_are (s ∷ statements) = ap (λ l. statement_lexemes s ∷ l) (lexemes_are statements)
 
 -- the whole text
-pub text_is : (rules : RuleFile) (statements : List Statement) (w : Written) → map definition_of statements ≡ definitions rules.formulas rules.stars
-    → w ≡ lines (whole []) (map statement_lexemes statements) → w.text ≡ canonical rules
+pub text_is : (rules : RuleFile) (statements : List Statement) (w : Written) → map definition_of statements ≡ definitions rules.selects rules.formulas rules.stars
+    → w ≡ lines (lines (whole []) (version_statements rules.version)) (map statement_lexemes statements) → w.text ≡ canonical rules
 text_is rules statements w in_order are =
-    ap (λ (u : Written). u.text) (are ∙ ap (lines (whole [])) (lexemes_are statements ∙ ap (map definition_lexemes) in_order) ∙ lines-layout [] (rule_lexemes rules))
+    let said = version_statements rules.version in
+    ap (λ (u : Written). u.text) (
+        are ∙ ap (lines (lines (whole []) said)) (lexemes_are statements ∙ ap (map definition_lexemes) in_order)
+        ∙ sym (lines-append (whole []) said (map definition_lexemes (definitions rules.selects rules.formulas rules.stars))) ∙ lines-layout [] (rule_lexemes rules))

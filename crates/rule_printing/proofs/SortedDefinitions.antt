@@ -9,9 +9,10 @@ use Rattle.std.proofs.lemmas.List.{map-append}
 use Rattle.star_model.specs.WellFormed.{differ}
 use Rattle.star_model.specs.Every.{Every}
 use Rattle.star_model.specs.declared.rules.FormulaDef.{FormulaDef}
+use Rattle.star_model.specs.declared.rules.SelectDef.{SelectDef}
 use Rattle.star_model.specs.declared.rules.StarDef.{StarDef}
 use Rattle.star_model.specs.declared.rules.RuleFile.{RuleFile}
-use Rattle.rule_grammar.specs.Rules.{Definition, OfFormula, OfStar, number_of, put_in, in_order, definitions}
+use Rattle.rule_grammar.specs.Rules.{Definition, OfSelect, OfFormula, OfStar, number_of, put_in, in_order, definitions}
 use Rattle.star_model.specs.WellFormedRules.{statement_numbers}
 use Rattle.rule_printing.specs.declared.print.Statement.{Statement}
 use Rattle.rule_printing.specs.Printing.{definition_of}
@@ -149,6 +150,10 @@ sorted_is_in_order xs ys numbers_differ permuted sorted =
 
 -- ---- the statements of a rule file
 
+select_numbers : (selects : List SelectDef) → map number_of (map OfSelect selects) ≡ map (λ d. d.statement) selects
+select_numbers [] = refl
+select_numbers (d ∷ selects) = ap (λ l. d.statement ∷ l) (select_numbers selects)
+
 formula_numbers : (formulas : List FormulaDef) → map number_of (map OfFormula formulas) ≡ map (λ d. d.statement) formulas
 formula_numbers [] = refl
 formula_numbers (d ∷ formulas) = ap (λ l. d.statement ∷ l) (formula_numbers formulas)
@@ -157,15 +162,24 @@ star_numbers : (stars : List StarDef) → map number_of (map OfStar stars) ≡ m
 star_numbers [] = refl
 star_numbers (s ∷ stars) = ap (λ l. s.statement ∷ l) (star_numbers stars)
 
-numbers_are : (rules : RuleFile) → map number_of (map OfFormula rules.formulas ++ map OfStar rules.stars) ≡ statement_numbers rules
+-- the definitions of a rule file, list by list
+abbrev listed : RuleFile → List Definition
+listed rules = map OfSelect rules.selects ++ (map OfFormula rules.formulas ++ map OfStar rules.stars)
+
+numbers_are : (rules : RuleFile) → map number_of (listed rules) ≡ statement_numbers rules
 numbers_are rules =
-    map-append number_of (map OfFormula rules.formulas) (map OfStar rules.stars)
-    ∙ ap (λ l. l ++ map number_of (map OfStar rules.stars)) (formula_numbers rules.formulas)
-    ∙ ap (λ l. map (λ d. d.statement) rules.formulas ++ l) (star_numbers rules.stars)
+    let formulas : List Definition = map OfFormula rules.formulas in
+    let stars : List Definition = map OfStar rules.stars in
+    map-append number_of (map OfSelect rules.selects) (formulas ++ stars)
+    ∙ ap (λ l. l ++ map number_of (formulas ++ stars)) (select_numbers rules.selects)
+    ∙ ap (λ l. map (λ d. d.statement) rules.selects ++ l) (
+        map-append number_of formulas stars
+        ∙ ap (λ l. l ++ map number_of stars) (formula_numbers rules.formulas)
+        ∙ ap (λ l. map (λ d. d.statement) rules.formulas ++ l) (star_numbers rules.stars))
 
 pub sorted_statements : (rules : RuleFile) (before after : List Statement) → differ nat_eq (statement_numbers rules) ≡ true
-    → map definition_of before ≡ map OfFormula rules.formulas ++ map OfStar rules.stars → IsPermutation before after → IsNonDecreasingBy (λ s. number_of (definition_of s)) after
-    → map definition_of after ≡ definitions rules.formulas rules.stars
+    → map definition_of before ≡ listed rules → IsPermutation before after → IsNonDecreasingBy (λ s. number_of (definition_of s)) after
+    → map definition_of after ≡ definitions rules.selects rules.formulas rules.stars
 sorted_statements rules before after numbers_differ all permuted sorted =
-    sorted_is_in_order (map OfFormula rules.formulas ++ map OfStar rules.stars) (map definition_of after) (ap (differ nat_eq) (numbers_are rules) ∙ numbers_differ)
+    sorted_is_in_order (listed rules) (map definition_of after) (ap (differ nat_eq) (numbers_are rules) ∙ numbers_differ)
     (subst (λ l. IsPermutation l (map definition_of after)) all (IsPermutation-map definition_of before after permuted)) (never_falls definition_of after sorted)

@@ -4,7 +4,7 @@ use Rattle.std.specs.List.{flat_map}
 use Rattle.star_model.specs.declared.rules.ValueExpr.{ValueExpr}
 use Rattle.spelling.specs.Lexemes.{Lexeme, comma}
 use Rattle.rule_grammar.specs.Values.{value_lexemes}
-use Rattle.rule_grammar.specs.Rules.{Definition, OfFormula, OfStar, definition_lexemes}
+use Rattle.rule_grammar.specs.Rules.{Definition, OfSelect, OfFormula, OfStar, definition_lexemes}
 use Rattle.rule_printing.specs.declared.print.Statement.{Statement}
 use Rattle.rule_printing.specs.declared.print.Statement.TheVariants as statement
 
@@ -14,6 +14,7 @@ further_lexemes arguments = flat_map (λ v. comma ∷ value_lexemes v) arguments
 
 -- what the statement defines
 abbrev pub definition_of : Statement → Definition
+definition_of (statement.Select d) = OfSelect d.now
 definition_of (statement.Formula d) = OfFormula d.now
 definition_of (statement.Star s) = OfStar s.now
 

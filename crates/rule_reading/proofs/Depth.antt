@@ -1,10 +1,11 @@
 -- One more value or condition inside.
 use Rattle.std.proofs.Common.{◌≡◌, ℕ, zero, suc, ◌-◌, ◌<◌, None, List, ap, arith}
+use Rattle.star_model.specs.WellFormedRules.{Scope}
 use Rattle.spelling.specs.Lexemes.{Lexeme}
 use Rattle.rule_grammar.specs.ValueReading.{value_at, value_by}
 use Rattle.rule_grammar.specs.ConditionReading.{condition_at, condition_by}
 
-module _ (scope : List (List ℕ)) where
+module _ (scope : Scope) where
   pub no_value : (n : ℕ) (ws : List Lexeme) → n ≡ 0 → value_at scope n ws ≡ None
   unfolding value_at
   no_value n ws h = ap (λ k. value_at scope k ws) h

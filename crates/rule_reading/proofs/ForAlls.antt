@@ -2,6 +2,7 @@
 use Rattle.std.proofs.Common.{◌≡◌, ◌<◌, ◌≤◌, ℕ, zero, suc, true, false, List, [], ◌∷◌, ◌++◌, length, Option, Some, None, Err, codes, refl, sym, ap, ◌∙◌, arith, length-append}
 use Rattle.std.specs.Option.{is_some, IfNone}
 use Rattle.star_model.specs.declared.rules.ForAll.{ForAll}
+use Rattle.star_model.specs.WellFormedRules.{Scope}
 use Rattle.spelling.specs.Lexemes.{Lexeme, Word}
 use Rattle.rule_grammar.specs.Values.{range_lexemes}
 use Rattle.spelling.specs.Reading.{Reads, the_word}
@@ -13,24 +14,24 @@ use Rattle.spelling.specs.declared.unread.Unread.TheVariants.{Strange, Memory}
 use Rattle.spelling.specs.Answers.{Answers}
 
 -- these are done, and what is left is read behind them
-pub record Going (parameters : List (List ℕ)) (depth : ℕ) (all : List Lexeme) (done : List ForAll) (left : List Lexeme) : Type 0 where
+pub record Going (parameters : Scope) (depth : ℕ) (all : List Lexeme) (done : List ForAll) (left : List Lexeme) : Type 0 where
   pub turns : ℕ
   pub enough : length left ≤ turns
   pub is : ranges_at parameters depth all ≡ ranges_behind parameters depth turns done left
 
-less : (depth : ℕ) (left mid : List Lexeme) (f : ForAll) (rest : List Lexeme) (scope : List (List ℕ)) → the_word (codes "for") left ≡ Some (tt, mid) → for_all_at scope depth mid ≡ Some (f, rest) → length rest < length left
+less : (depth : ℕ) (left mid : List Lexeme) (f : ForAll) (rest : List Lexeme) (scope : Scope) → the_word (codes "for") left ≡ Some (tt, mid) → for_all_at scope depth mid ≡ Some (f, rest) → length rest < length left
 less depth left mid f rest scope first next =
     let passed : length left ≡ length (Word (codes "for") ∷ mid) = ap (λ (l : List Lexeme). length l) ((the_word_reads (codes "for") left mid).0 first) in
     let spelled : length mid ≡ length (Word f.name ∷ Word (codes "in") ∷ (range_lexemes f.range ++ rest)) = ap (λ (l : List Lexeme). length l) (for_all_spelled scope depth mid f rest next).0 in
     omega (arith, passed, spelled, length-append (range_lexemes f.range) rest)
 
 -- behind a clause less is left
-pub falls : (depth : ℕ) (left : List Lexeme) (found : Option (Unit {0})) (mid : List Lexeme) (f : ForAll) (rest : List Lexeme) (scope : List (List ℕ)) → Reads (the_word (codes "for") left) found mid → is_some found ≡ true
+pub falls : (depth : ℕ) (left : List Lexeme) (found : Option (Unit {0})) (mid : List Lexeme) (f : ForAll) (rest : List Lexeme) (scope : Scope) → Reads (the_word (codes "for") left) found mid → is_some found ≡ true
     → for_all_at scope depth mid ≡ Some (f, rest) → length rest < length left
 falls depth left None mid f rest scope first some next = absurd cc
 falls depth left (Some found) mid f rest scope first some next = less depth left mid f rest scope first next
 
-module _ (parameters : List (List ℕ)) (depth : ℕ) where
+module _ (parameters : Scope) (depth : ℕ) where
   pub begun : (all : List Lexeme) → Going parameters depth all [] all
   unfolding ranges_at
   begun all = record { turns = length all; enough = omega arith; is = refl }
@@ -48,7 +49,7 @@ module _ (parameters : List (List ℕ)) (depth : ℕ) where
         last (suc n) = rw first refl
 
     -- one that isn't read
-    pub stops : (found : Option (Unit {0})) (mid : List Lexeme) (why : Unread) (rest last : List Lexeme) (scope : List (List ℕ)) → Reads (the_word (codes "for") left) found mid → is_some found ≡ true
+    pub stops : (found : Option (Unit {0})) (mid : List Lexeme) (why : Unread) (rest last : List Lexeme) (scope : Scope) → Reads (the_word (codes "for") left) found mid → is_some found ≡ true
         → scope ≡ with_ranges parameters done → Answers (for_all_at scope depth mid) (Err why) rest → Answers (ranges_at parameters depth all) (Err why) last
     unfolding ranges_behind
     stops None mid why rest last scope first some is next = absurd cc
@@ -60,7 +61,7 @@ module _ (parameters : List (List ℕ)) (depth : ℕ) where
         none (suc n) enough = rw (first, sym is, next) refl
 
     -- one more
-    pub goes : (found : Option (Unit {0})) (mid : List Lexeme) (f : ForAll) (new : List ForAll) (rest : List Lexeme) (scope : List (List ℕ)) → Reads (the_word (codes "for") left) found mid → is_some found ≡ true
+    pub goes : (found : Option (Unit {0})) (mid : List Lexeme) (f : ForAll) (new : List ForAll) (rest : List Lexeme) (scope : Scope) → Reads (the_word (codes "for") left) found mid → is_some found ≡ true
         → scope ≡ with_ranges parameters done → for_all_at scope depth mid ≡ Some (f, rest) → new ≡ done ++ f ∷ [] → Going parameters depth all new rest
     unfolding ranges_behind
     goes None mid f new rest scope first some same next new_is = absurd cc

@@ -7,3 +7,5 @@ mod PlanDepth
 mod ForAlls
 mod Joined
 mod FormulaDefLaws
+mod PerLaws
+mod SelectDefLaws

@@ -1,7 +1,7 @@
 -- The parts of STARs, as items of lists.
 use Rattle.std.proofs.Common.{ℕ, List, codes}
 use Rattle.spelling.specs.Lexemes.{comma, bar}
-use Rattle.star_model.specs.WellFormedRules.{IsName, IsValue, IsAlternative}
+use Rattle.star_model.specs.WellFormedRules.{Scope, IsName, IsValue, IsAlternative}
 use Rattle.rule_grammar.specs.Values.{value_lexemes}
 use Rattle.rule_grammar.specs.Rules.{alternative_lexemes, parameter_lexemes}
 use Rattle.spelling.specs.Reading.{the_symbol}
@@ -17,11 +17,11 @@ commas = the_symbol_reads (codes ",")
 pub bars : Separates (the_symbol (codes "|")) bar
 bars = the_symbol_reads (codes "|")
 
-pub value_is : (scope : List (List ℕ)) (depth : ℕ) → Spells (value_at scope depth) value_lexemes (IsValue scope)
+pub value_is : (scope : Scope) (depth : ℕ) → Spells (value_at scope depth) value_lexemes (IsValue scope)
 value_is scope depth = value_is_spelled scope depth
 
-pub alternative_is : (parameters : List (List ℕ)) (depth : ℕ) → Spells (alternative_at parameters depth) alternative_lexemes (IsAlternative parameters)
+pub alternative_is : (parameters : Scope) (depth : ℕ) → Spells (alternative_at parameters depth) alternative_lexemes (IsAlternative parameters)
 alternative_is parameters depth = alternative_spelled parameters depth
 
-pub parameter_is : Spells parameter_at parameter_lexemes (λ p. IsName p.name)
-parameter_is = parameter_spelled
+pub parameter_is : (version : ℕ) → Spells (parameter_at version) parameter_lexemes (λ p. IsName version p.name)
+parameter_is version = parameter_spelled version

@@ -7,6 +7,7 @@ use Rattle.star_model.specs.declared.rules.ValueExpr.{ValueExpr}
 use Rattle.star_model.specs.ValueCases.{WithTemp}
 use Rattle.rule_grammar.specs.declared.words.RequirementHead.{RequirementHead}
 use Rattle.rule_grammar.specs.declared.words.RequirementHead.TheVariants as requirement
+use Rattle.star_model.specs.WellFormedRules.{Scope}
 use Rattle.spelling.specs.Lexemes.{Lexeme}
 use Rattle.rule_grammar.specs.Values.{value_lexemes}
 use Rattle.spelling.specs.Reading.{Reader, ◌>>=◌, Reads, the_symbol, a_word}
@@ -26,7 +27,7 @@ pub record Goes (inner : Reader ValueExpr) (all : Option (ValueExpr × List Lexe
 symbol_shrinks : (wanted : List ℕ) (ws rest : List Lexeme) (u : Unit {0}) → the_symbol wanted ws ≡ Some (u, rest) → length rest < length ws
 symbol_shrinks wanted ws rest u read = let is = ap (λ (l : List Lexeme). length l) ((the_symbol_reads wanted ws rest).0 read) in omega (arith, is)
 
-pub value_shrinks : (scope : List (List ℕ)) (n : ℕ) (ws : List Lexeme) (v : ValueExpr) (rest : List Lexeme) → value_at scope n ws ≡ Some (v, rest) → length rest ≤ length ws
+pub value_shrinks : (scope : Scope) (n : ℕ) (ws : List Lexeme) (v : ValueExpr) (rest : List Lexeme) → value_at scope n ws ≡ Some (v, rest) → length rest ≤ length ws
 value_shrinks scope n ws v rest read =
     let is = ap (λ (l : List Lexeme). length l) (value_is_spelled scope n ws v rest read).0 in
     let sum = length-append (value_lexemes v) rest in

@@ -1,6 +1,5 @@
 // Reading the alternatives of STARs.
-ghost use Rattle.std.specs.Prelude.{map};
-ghost use Rattle.rule_grammar.specs.StarReading.{when_at, body_at, conditional_body_at, alternative_at, alternatives_at};
+ghost use Rattle.rule_grammar.specs.StarReading.{when_at, body_at, conditional_body_at, alternative_at, alternatives_at, names_of};
 ghost use Rattle.spelling.specs.Answers.{Answers};
 
 use crate::conditions::condition;
@@ -62,14 +61,15 @@ fn conditional_body(
 #[tactic(auto, unfolding(rule_grammar::specs::StarReading::alternative_at))]
 fn alternative(
     alloc: Global,
+    version: u8,
     params: &[Param],
     cursor: &mut Cursor<'_>,
     depth: usize,
 ) -> Result<Alternative, Unread>
-    ensures { Answers (alternative_at (map (λ p. p.name) params.now) depth cursor.old) result cursor.new }
+    ensures { Answers (alternative_at (names_of version params.now) depth cursor.old) result cursor.new }
 {
-    let ranges = ranges(alloc, params, cursor, depth)?;
-    let scope = Scope::new(params, ranges.as_slice());
+    let ranges = ranges(alloc, version, params, cursor, depth)?;
+    let scope = Scope::new(version, params, ranges.as_slice());
     let rest = conditional_body(alloc, &scope, cursor, depth);
     let (ranges, (condition, body)) = paired(ranges, rest)?;
     Ok(Alternative {
@@ -83,15 +83,16 @@ fn alternative(
 #[tactic(auto, unfolding(rule_grammar::specs::StarReading::alternatives_at))]
 pub fn alternatives(
     alloc: Global,
+    version: u8,
     params: &[Param],
     cursor: &mut Cursor<'_>,
     depth: usize,
 ) -> Result<List<Alternative>, Unread>
-    ensures { Answers (alternatives_at (map (λ p. p.name) params.now) depth cursor.old) result cursor.new }
+    ensures { Answers (alternatives_at (names_of version params.now) depth cursor.old) result cursor.new }
 {
     let mut alternatives = List::new(alloc);
     loop {
-        let alternative = alternative(alloc, params, cursor, depth)?;
+        let alternative = alternative(alloc, version, params, cursor, depth)?;
         alternatives.push(alternative)?;
         if cursor.the_symbol(b"|").is_none() {
             return Ok(alternatives);

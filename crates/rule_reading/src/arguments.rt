@@ -22,6 +22,7 @@ fn arguments_of(flavour: Flavour) -> usize
         Flavour::JoinMerge | Flavour::JoinHash => 2,
         Flavour::Filter | Flavour::Sort | Flavour::Store | Flavour::Ship => 1,
         Flavour::JoinNl => 1,
+        Flavour::Intersect => 0,
     }
 }
 
@@ -72,7 +73,7 @@ pub fn own_arguments(
     counted(flavour, arguments).ok_or(Unread::Strange)
 }
 
-/// The arguments of an operator behind its plans.
+/// The arguments of an operator behind its plans, which may be all that it takes.
 #[tactic(auto, unfolding(rule_grammar::specs::PlanReading::more_arguments_at))]
 pub fn more_arguments(
     alloc: Global,
@@ -83,6 +84,10 @@ pub fn more_arguments(
 ) -> Result<List<ValueExpr>, Unread>
     ensures { Answers (more_arguments_at (value_at scope.now depth) flavour cursor.old) result cursor.new }
 {
+    if arguments_of(flavour) == 0 {
+        cursor.the_symbol(b")").ok_or(Unread::Strange)?;
+        return Ok(List::new(alloc));
+    }
     cursor.the_symbol(b",").ok_or(Unread::Strange)?;
     own_arguments(alloc, scope, cursor, depth, flavour)
 }

@@ -1,6 +1,5 @@
 // Reading the for-all clauses of alternatives.
-ghost use Rattle.std.specs.Prelude.{map};
-ghost use Rattle.rule_grammar.specs.StarReading.{for_all_at, ranges_at};
+ghost use Rattle.rule_grammar.specs.StarReading.{for_all_at, ranges_at, names_of};
 ghost use Rattle.spelling.specs.Answers.{Answers};
 
 use crate::names::free_name;
@@ -21,7 +20,7 @@ fn for_all(
 ) -> Result<ForAll, Unread>
     ensures { Answers (for_all_at scope.now depth cursor.old) result cursor.new }
 {
-    let name = free_name(alloc, cursor)?;
+    let name = free_name(alloc, scope.version(), cursor)?;
     cursor.the_word(b"in").ok_or(Unread::Strange)?;
     let range = range(alloc, scope, cursor, depth)?;
     Ok(ForAll { name, range })
@@ -31,15 +30,16 @@ fn for_all(
 #[tactic(auto, unfolding(rule_grammar::specs::StarReading::ranges_at))]
 pub fn ranges(
     alloc: Global,
+    version: u8,
     params: &[Param],
     cursor: &mut Cursor<'_>,
     depth: usize,
 ) -> Result<List<ForAll>, Unread>
-    ensures { Answers (ranges_at (map (λ p. p.name) params.now) depth cursor.old) result cursor.new }
+    ensures { Answers (ranges_at (names_of version params.now) depth cursor.old) result cursor.new }
 {
     let mut ranges = List::new(alloc);
     'clauses: while cursor.the_word(b"for").is_some() {
-        let scope = Scope::new(params, ranges.as_slice());
+        let scope = Scope::new(version, params, ranges.as_slice());
         let range = for_all(alloc, &scope, cursor, depth)?;
         ranges.push(range)?;
     }

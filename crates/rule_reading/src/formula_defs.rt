@@ -11,7 +11,7 @@ ghost use Rattle.rule_reading.specs.FormulaDefs.{head_of};
 use cost_formula::read_formula;
 use sb_text::Token;
 use spelling::Cursor;
-use star_model::flavours::flavour_of;
+use star_model::flavours::flavour_in;
 use star_model::rules::{Flavour, FormulaDef, Which};
 use std::alloc::{AllocError, Global};
 
@@ -30,30 +30,32 @@ fn which_of(word: &[u8]) -> Option<Which>
 
 // The cost and the operator at the head of the statement.
 #[tactic(auto, unfolding(rule_grammar::specs::FormulaHeads::formula_head_at))]
-fn head(cursor: &mut Cursor<'_>) -> Option<(Which, Flavour)>
-    ensures { Reads (formula_head_at cursor.old) (head_of result) cursor.new }
+fn head(version: u8, cursor: &mut Cursor<'_>) -> Option<(Which, Flavour)>
+    ensures { Reads (formula_head_at version cursor.old) (head_of result) cursor.new }
 {
     let which = which_of(cursor.word()?)?;
-    let flavour = flavour_of(cursor.word()?)?;
+    let flavour = flavour_in(version, cursor.word()?)?;
     cursor.the_symbol(b"=")?;
     Some((which, flavour))
 }
 
-/// The formula that the statement with this number defines, from its tokens, or `None` where it defines none.
+/// The formula that the statement with this number defines in a rule file of this version, from its tokens, or `None` where it defines
+/// none.
 pub fn read_formula_def(
     alloc: Global,
     source: &[u8],
     tokens: &[Token],
     number: u32,
+    version: u8,
 ) -> Result<Option<FormulaDef>, AllocError>
     requires { AreTokensOf source.now tokens.now }
-    ensures some { IfOk result (λ o. IfSome o (λ d. SpellsFormulaDef number (lexemes_of source.now tokens.now) d)) }
-    ensures none { IfOk result (λ o. IfNone o ((d : FormulaDef) → SpellsFormulaDef number (lexemes_of source.now tokens.now) d → ⊥)) }
+    ensures some { IfOk result (λ o. IfSome o (λ d. SpellsFormulaDef version number (lexemes_of source.now tokens.now) d)) }
+    ensures none { IfOk result (λ o. IfNone o ((d : FormulaDef) → SpellsFormulaDef version number (lexemes_of source.now tokens.now) d → ⊥)) }
 {
     let [_, _, _, behind @ ..] = tokens else {
         return Ok(None);
     };
-    let Some((which, flavour)) = head(&mut Cursor::new(source, tokens)) else {
+    let Some((which, flavour)) = head(version, &mut Cursor::new(source, tokens)) else {
         return Ok(None);
     };
     match read_formula(alloc, behind, source)? {

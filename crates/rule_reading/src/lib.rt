@@ -1,4 +1,4 @@
-//! Reading the statements of rule files: formulas, and STARs with the values, conditions and plans in them.
+//! Reading the statements of rule files: formulas, selectivities, and STARs with the values, conditions and plans in them.
 #![tactic(auto)]
 
 mod alternatives;
@@ -15,10 +15,12 @@ mod plan_nodes;
 mod plans;
 mod ranges;
 mod scope;
+mod select_defs;
 mod stars;
 mod value_nodes;
 mod value_rules;
 mod values;
 
 pub use formula_defs::read_formula_def;
+pub use select_defs::read_select_def;
 pub use stars::read_star;

@@ -12,7 +12,7 @@ use crate::plan_nodes::{binary_plan, unary_plan};
 use crate::scope::Scope;
 use spelling::{Cursor, Unread};
 use sqlite_items::Boxed;
-use star_model::flavours::flavour_of;
+use star_model::flavours::flavour_in;
 use star_model::rules::{Flavour, PlanExpr};
 use std::alloc::Global;
 
@@ -105,7 +105,7 @@ impl<F: Fn(Global, &Scope<'_>, &mut Cursor<'_>, usize) -> Result<PlanExpr, Unrea
             }
             Flavour::Get | Flavour::Filter | Flavour::Sort => self.unary(cursor, flavour),
             Flavour::Store | Flavour::Ship | Flavour::Probe => self.unary(cursor, flavour),
-            Flavour::JoinNl | Flavour::JoinMerge | Flavour::JoinHash => {
+            Flavour::JoinNl | Flavour::JoinMerge | Flavour::JoinHash | Flavour::Intersect => {
                 self.binary(cursor, flavour)
             }
         }
@@ -114,16 +114,16 @@ impl<F: Fn(Global, &Scope<'_>, &mut Cursor<'_>, usize) -> Result<PlanExpr, Unrea
     #[tactic(auto, unfolding(rule_grammar::specs::PlanReading::plan_by))]
     fn plan(&self, cursor: &mut Cursor<'_>) -> Result<PlanExpr, Unread>
         requires { NestsPlans self.now.depth (F.pre self.now.inner) (F.post self.now.inner) }
-        ensures { Answers (plan_by (value_at self.now.scope.now self.now.depth) (plan_at self.now.scope.now self.now.depth) cursor.old) result cursor.new }
+        ensures { Answers (plan_by (value_at self.now.scope.now self.now.depth) (plan_at self.now.scope.now self.now.depth) self.now.scope.now.version cursor.old) result cursor.new }
     {
         let word = cursor.word().ok_or(Unread::Strange)?;
-        if let Some(flavour) = flavour_of(word) {
+        if let Some(flavour) = flavour_in(self.scope.version(), word) {
             return self.operator(cursor, flavour);
         }
         if word == b"Glue".as_slice() {
             return glue(self.alloc, self.scope, cursor, self.depth);
         }
-        if is_reserved(word) {
+        if is_reserved(self.scope.version(), word) {
             return Err(Unread::Strange);
         }
         reference(self.alloc, self.scope, cursor, self.depth, word)

@@ -16,10 +16,10 @@ use std::alloc::{AllocError, Global};
 
 // A parameter and its kind.
 #[tactic(auto, unfolding(rule_grammar::specs::StarReading::parameter_at, rule_grammar::specs::RuleWords::kind_at))]
-fn parameter(alloc: Global, cursor: &mut Cursor<'_>) -> Result<Param, Unread>
-    ensures { Answers (parameter_at cursor.old) result cursor.new }
+fn parameter(alloc: Global, version: u8, cursor: &mut Cursor<'_>) -> Result<Param, Unread>
+    ensures { Answers (parameter_at version cursor.old) result cursor.new }
 {
-    let name = free_name(alloc, cursor)?;
+    let name = free_name(alloc, version, cursor)?;
     let word = cursor.word().ok_or(Unread::Strange)?;
     let kind = kind_of(word).ok_or(Unread::Strange)?;
     Ok(Param { name, kind })
@@ -27,12 +27,16 @@ fn parameter(alloc: Global, cursor: &mut Cursor<'_>) -> Result<Param, Unread>
 
 // Parameters with commas between.
 #[tactic(auto, unfolding(rule_grammar::specs::StarReading::parameters_at))]
-fn parameters(alloc: Global, cursor: &mut Cursor<'_>) -> Result<List<Param>, Unread>
-    ensures { Answers (parameters_at cursor.old) result cursor.new }
+fn parameters(
+    alloc: Global,
+    version: u8,
+    cursor: &mut Cursor<'_>,
+) -> Result<List<Param>, Unread>
+    ensures { Answers (parameters_at version cursor.old) result cursor.new }
 {
     let mut parameters = List::new(alloc);
     loop {
-        let parameter = parameter(alloc, cursor)?;
+        let parameter = parameter(alloc, version, cursor)?;
         parameters.push(parameter)?;
         if cursor.the_symbol(b",").is_none() {
             return Ok(parameters);
@@ -42,13 +46,17 @@ fn parameters(alloc: Global, cursor: &mut Cursor<'_>) -> Result<List<Param>, Unr
 
 // What stands before the alternatives: the name and the parameters.
 #[tactic(auto, unfolding(rule_grammar::specs::StarReading::head_at))]
-fn head(alloc: Global, cursor: &mut Cursor<'_>) -> Result<(Name, List<Param>), Unread>
-    ensures { Answers (head_at cursor.old) result cursor.new }
+fn head(
+    alloc: Global,
+    version: u8,
+    cursor: &mut Cursor<'_>,
+) -> Result<(Name, List<Param>), Unread>
+    ensures { Answers (head_at version cursor.old) result cursor.new }
 {
     cursor.the_word(b"star").ok_or(Unread::Strange)?;
-    let name = free_name(alloc, cursor)?;
+    let name = free_name(alloc, version, cursor)?;
     cursor.the_symbol(b"(").ok_or(Unread::Strange)?;
-    let params = parameters(alloc, cursor)?;
+    let params = parameters(alloc, version, cursor)?;
     cursor.the_symbol(b")").ok_or(Unread::Strange)?;
     cursor.the_symbol(b"=").ok_or(Unread::Strange)?;
     Ok((name, params))
@@ -58,14 +66,15 @@ fn head(alloc: Global, cursor: &mut Cursor<'_>) -> Result<(Name, List<Param>), U
 #[tactic(auto, unfolding(rule_grammar::specs::StarReading::star_at))]
 fn star(
     alloc: Global,
+    version: u8,
     cursor: &mut Cursor<'_>,
     statement: u32,
     depth: usize,
 ) -> Result<StarDef, Unread>
-    ensures { Answers (star_at statement depth cursor.old) result cursor.new }
+    ensures { Answers (star_at version statement depth cursor.old) result cursor.new }
 {
-    let (name, params) = head(alloc, cursor)?;
-    let alternatives = alternatives(alloc, params.as_slice(), cursor, depth)?;
+    let (name, params) = head(alloc, version, cursor)?;
+    let alternatives = alternatives(alloc, version, params.as_slice(), cursor, depth)?;
     Ok(StarDef {
         statement,
         name,
@@ -74,7 +83,8 @@ fn star(
     })
 }
 
-/// The STAR that these tokens of the source define, which are all of the statement with this number; `None` where they define none.
+/// The STAR that these tokens of the source define in a rule file of this version, which are all of the statement with this number;
+/// `None` where they define none.
 ///
 /// The recursion goes as deep as brackets nest: at most 32 in the tokens that `sb_text::tokens` gives.
 #[tactic(auto, unfolding(rule_grammar::specs::StarReading::star_of))]
@@ -83,12 +93,13 @@ pub fn read_star(
     source: &[u8],
     tokens: &[Token],
     number: u32,
+    version: u8,
 ) -> Result<Option<StarDef>, AllocError>
     requires { AreTokensOf source.now tokens.now }
-    ensures { IfOk result (λ read. read ≡ star_of number (lexemes_of source.now tokens.now)) }
+    ensures { IfOk result (λ read. read ≡ star_of version number (lexemes_of source.now tokens.now)) }
 {
     let mut cursor = Cursor::new(source, tokens);
-    match star(alloc, &mut cursor, number, tokens.len() + 1) {
+    match star(alloc, version, &mut cursor, number, tokens.len() + 1) {
         Ok(star) => {
             if cursor.is_done() {
                 Ok(Some(star))

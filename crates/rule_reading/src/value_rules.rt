@@ -103,7 +103,7 @@ impl<'a, F: Fn(Global, &Scope<'_>, &mut Cursor<'_>, usize) -> Result<ValueExpr, 
     fn variable(&self, cursor: &mut Cursor<'_>, name: &[u8]) -> Result<ValueExpr, Unread>
         ensures { Answers (variable_at self.now.scope.now name.now cursor.old) result cursor.new }
     {
-        if is_reserved(name) {
+        if is_reserved(self.scope.version(), name) {
             return Err(Unread::Strange);
         }
         let place = self.scope.place(name);

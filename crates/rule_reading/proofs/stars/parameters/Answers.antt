@@ -21,8 +21,8 @@ returns-then-is_none c =
 
 pub loop-parameters-smaller : goal.loop-parameters-smaller
 loop-parameters-smaller c =
-    falls _ _ parameter_lexemes (λ p. IsName p.name) comma parameter_is commas _ c.in_ok-parameter.parameter c.parameter.new.cursor _ _ c.in_ok-parameter.ensures c.the_symbol.ensures.reads c.if-is_none.ensures
+    falls _ _ parameter_lexemes (λ p. IsName c.args.version p.name) comma (parameter_is c.args.version) commas _ c.in_ok-parameter.parameter c.parameter.new.cursor _ _ c.in_ok-parameter.ensures c.the_symbol.ensures.reads c.if-is_none.ensures
 
 pub loop-parameters-preserved : goal.loop-parameters-preserved
 loop-parameters-preserved c =
-    goes _ _ parameter_lexemes (λ p. IsName p.name) comma parameter_is commas _ _ _ _ _ _ _ _ c.loop-parameters.invariant c.in_ok-parameter.ensures c.in_ok-push.ensures.ok c.the_symbol.ensures.reads c.if-is_none.ensures
+    goes _ _ parameter_lexemes (λ p. IsName c.args.version p.name) comma (parameter_is c.args.version) commas _ _ _ _ _ _ _ _ c.loop-parameters.invariant c.in_ok-parameter.ensures c.in_ok-push.ensures.ok c.the_symbol.ensures.reads c.if-is_none.ensures

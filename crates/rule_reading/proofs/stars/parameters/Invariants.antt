@@ -5,7 +5,7 @@ use Rattle.rule_grammar.specs.StarReading.{parameter_at}
 use Rattle.rule_reading.proofs.stars.parameters.Given as goal
 
 abbrev pub invariant-loop-parameters : goal.invariant-loop-parameters
-invariant-loop-parameters l = Stands parameter_at (the_symbol (codes ",")) l.fn.cursor l.parameters l.cursor
+invariant-loop-parameters l = Stands (parameter_at l.version) (the_symbol (codes ",")) l.fn.cursor l.parameters l.cursor
 
 abbrev pub decreases-loop-parameters : goal.decreases-loop-parameters
 decreases-loop-parameters l = length l.cursor

@@ -15,4 +15,4 @@ returns c =
     (YieldsList-at c.chain.ensures.second (YieldsList-from_map_by _ (λ r. r.now) (λ f. f.name) (YieldsList-from_slice c.self.inside.ranges.now (cc)) c.map-ranges.ensures.closure (λ x r q k. search rules)))
     c.chain.ensures.first_done c.chain.ensures.second_done)
     (λ x b q k. search (rules, tests)))
-    ∙ ap (λ names. place_of c.args.name.now names) c.self.view_is
+    ∙ ap (λ scope. place_of c.args.name.now scope.names) c.self.view_is
