@@ -1,0 +1,2 @@
+pub mod LoadedTables
+pub mod Types
