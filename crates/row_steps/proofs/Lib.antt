@@ -1,1 +1,4 @@
 mod Reading
+mod PinWalks
+mod SearchRules
+mod Skipped

@@ -1,2 +1,5 @@
 pub mod LoadedTables
 pub mod Types
+pub mod PinOrders
+pub mod Codes
+pub mod Groups
