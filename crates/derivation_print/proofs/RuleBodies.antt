@@ -80,13 +80,13 @@ star_ok version s h w few = record {
   few = few.alternatives;
 }
 
-stars_ok : {version n : ℕ} {statements : List (List Lexeme)} {ds : List SelectDef} {fs : List FormulaDef} {ss : List StarDef} → SpellsDefinitions version n statements ds fs ss → Every Formed statements → Every HasFewParts ss → Every StarOk ss
-stars_ok spec.none h few = tt
-stars_ok (spec.select p later) h few = stars_ok later h.1 few
-stars_ok (spec.formula p later) h few = stars_ok later h.1 few
-stars_ok (spec.star {version = version} {s = s} p later) h few = (star_ok version s p.stands (subst Formed p.are h.0) few.0, stars_ok later h.1 few.1)
+stars_ok : (version : ℕ) {n : ℕ} {statements : List (List Lexeme)} {ds : List SelectDef} {fs : List FormulaDef} {ss : List StarDef} → SpellsDefinitions version n statements ds fs ss → Every Formed statements → Every HasFewParts ss → Every StarOk ss
+stars_ok version spec.none h few = tt
+stars_ok version (spec.select p later) h few = stars_ok version later h.1 few
+stars_ok version (spec.formula p later) h few = stars_ok version later h.1 few
+stars_ok version (spec.star {s = s} p later) h few = (star_ok version s p.stands (subst Formed p.are h.0) few.0, stars_ok version later h.1 few.1)
 
 pub spelled_stars : (text : List ℕ) (rules : RuleFile) → SpellsRules text rules → KeepsCounts rules → Every StarOk rules.stars
 spelled_stars text rules p few =
-    let version = version_statements rules.version in
-    stars_ok p.define (every_back Formed version p.statements (formed_statements text (version ++ p.statements) p.are)) few
+    let heads = version_statements rules.version in
+    stars_ok rules.version p.define (every_back Formed heads p.statements (formed_statements text (heads ++ p.statements) p.are)) few

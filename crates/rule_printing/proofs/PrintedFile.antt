@@ -4,8 +4,8 @@ use Rattle.std.proofs.lemmas.List.{drop_all}
 use Rattle.star_model.specs.declared.rules.RuleFile.{RuleFile}
 use Rattle.spelling.specs.Lexemes.{Lexeme}
 use Rattle.rule_grammar.specs.Rules.{version_statements, definition_lexemes, definitions, rule_lexemes, canonical}
-use Rattle.spelling.specs.Writing.{Written, whole, puts, ended, lines}
-use Rattle.spelling.proofs.Laws.{lines-more, lines-none, lines-append, lines-layout}
+use Rattle.spelling.specs.Writing.{Written, whole, put, puts, ended, lines}
+use Rattle.spelling.proofs.Laws.{puts-more, lines-more, lines-none, lines-append, lines-layout}
 use Rattle.rule_printing.specs.declared.print.Statement.{Statement}
 use Rattle.rule_printing.specs.Printing.{definition_of, statement_lexemes}
 
@@ -23,6 +23,10 @@ line_next spell w u v all statements place x below left at is ends =
 pub lines_done : {A : Type 0} (spell : A → List Lexeme) (w all : Written) (statements : List A) (place : ℕ) → length statements ≤ place → LinesLeft spell w statements place all → w ≡ all
 lines_done spell w all statements place above left = sym (ap (λ l. lines w (map spell l)) (drop_all place statements above) ∙ lines-none w) ∙ left
 
+-- three lexemes before others
+pub puts_three : (w : Written) (a b c : Lexeme) (later : List Lexeme) → puts w (a ∷ b ∷ c ∷ later) ≡ puts (put (put (put w a) b) c) later
+puts_three w a b c later = puts-more w a (b ∷ c ∷ later) ∙ puts-more (put w a) b (c ∷ later) ∙ puts-more (put (put w a) b) c later
+
 lexemes_are : (statements : List Statement) → map statement_lexemes statements ≡ map definition_lexemes (map definition_of statements)
 lexemes_are [] = refl
 lexemes_are (s ∷ statements) = ap (λ l. statement_lexemes s ∷ l) (lexemes_are statements)
@@ -33,5 +37,5 @@ pub text_is : (rules : RuleFile) (statements : List Statement) (w : Written) →
 text_is rules statements w in_order are =
     let said = version_statements rules.version in
     ap (λ (u : Written). u.text) (
-        are ∙ ap (lines (lines (whole []) said)) (lexemes_are statements ∙ ap (map definition_lexemes) in_order)
-        ∙ sym (lines-append (whole []) said (map definition_lexemes (definitions rules.selects rules.formulas rules.stars))) ∙ lines-layout [] (rule_lexemes rules))
+    are ∙ ap (lines (lines (whole []) said)) (lexemes_are statements ∙ ap (map definition_lexemes) in_order)
+    ∙ sym (lines-append (whole []) said (map definition_lexemes (definitions rules.selects rules.formulas rules.stars))) ∙ lines-layout [] (rule_lexemes rules))

@@ -1,5 +1,5 @@
 -- Definitions that are sorted by their numbers are in order, where the numbers differ.
-use Rattle.std.proofs.Common.{◌≡◌, ℕ, suc, ◌<◌, ◌≤◌, ◌⊎◌, inl, inr, Bool, true, false, not, nat_lt, nat_eq, if◌then◌else◌, List, [], ◌∷◌, ◌++◌, map, length, refl, sym, ap, ◌∙◌, subst, arith}
+use Rattle.std.proofs.Common.{◌≡◌, ℕ, suc, ◌<◌, ◌≤◌, ◌⊎◌, inl, inr, Bool, true, false, not, nat_lt, nat_eq, if◌then◌else◌, List, [], ◌∷◌, ◌++◌, map, length, refl, sym, ap, ◌∙◌, subst, arith, append_assoc}
 use Rattle.std.specs.List.{list_all, All}
 use Rattle.std.specs.List.Sorted.{IsPermutation, IsNonDecreasingBy}
 use Rattle.std.proofs.lemmas.Bool.{and_parts, not-true, eqb-false, ltb-true, ltb-false}
@@ -163,7 +163,7 @@ star_numbers [] = refl
 star_numbers (s ∷ stars) = ap (λ l. s.statement ∷ l) (star_numbers stars)
 
 -- the definitions of a rule file, list by list
-abbrev listed : RuleFile → List Definition
+abbrev pub listed : RuleFile → List Definition
 listed rules = map OfSelect rules.selects ++ (map OfFormula rules.formulas ++ map OfStar rules.stars)
 
 numbers_are : (rules : RuleFile) → map number_of (listed rules) ≡ statement_numbers rules
@@ -173,9 +173,14 @@ numbers_are rules =
     map-append number_of (map OfSelect rules.selects) (formulas ++ stars)
     ∙ ap (λ l. l ++ map number_of (formulas ++ stars)) (select_numbers rules.selects)
     ∙ ap (λ l. map (λ d. d.statement) rules.selects ++ l) (
-        map-append number_of formulas stars
-        ∙ ap (λ l. l ++ map number_of stars) (formula_numbers rules.formulas)
-        ∙ ap (λ l. map (λ d. d.statement) rules.formulas ++ l) (star_numbers rules.stars))
+    map-append number_of formulas stars
+    ∙ ap (λ l. l ++ map number_of stars) (formula_numbers rules.formulas)
+    ∙ ap (λ l. map (λ d. d.statement) rules.formulas ++ l) (star_numbers rules.stars))
+
+pub gathered : (selects formulas stars first second third : List Definition) → first ≡ selects → second ≡ first ++ formulas → third ≡ second ++ stars
+    → third ≡ selects ++ (formulas ++ stars)
+gathered selects formulas stars first second third a b c =
+    c ∙ ap (λ l. l ++ stars) (b ∙ ap (λ l. l ++ formulas) a) ∙ append_assoc selects formulas stars
 
 pub sorted_statements : (rules : RuleFile) (before after : List Statement) → differ nat_eq (statement_numbers rules) ≡ true
     → map definition_of before ≡ listed rules → IsPermutation before after → IsNonDecreasingBy (λ s. number_of (definition_of s)) after

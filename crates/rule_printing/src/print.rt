@@ -1,9 +1,11 @@
 // Printing a rule file.
 
-ghost use Rattle.std.specs.Prelude.{◌≡◌, true, nat_eq, ◌++◌, map, IfOk, OnOk};
+ghost use Rattle.std.specs.Prelude.{◌≡◌, true, nat_eq, ◌∷◌, ◌++◌, map, codes, IfOk, OnOk};
 ghost use Rattle.star_model.specs.WellFormed.{differ};
 ghost use Rattle.star_model.specs.WellFormedRules.{statement_numbers};
 ghost use Rattle.rule_grammar.specs.Rules.{OfSelect, OfFormula, OfStar, number_of, version_statements, select_def_lexemes, formula_def_lexemes, definitions, canonical};
+ghost use Rattle.cost_formula.specs.Formulas.{formula_lexemes};
+ghost use Rattle.spelling.specs.Lexemes.{Word};
 ghost use Rattle.spelling.specs.Writing.{puts, lines};
 ghost use Rattle.rule_printing.specs.Printing.{definition_of, statement_lexemes};
 
@@ -80,6 +82,16 @@ fn statements_in_order(alloc: Global, rules: &RuleFile) -> Result<Vec<Statement<
     Ok(all)
 }
 
+// The two formulas of a selectivity.
+#[tactic(auto, using(spelling::proofs::Laws::writing))]
+fn print_num_and_den(out: &mut Writer, select: &SelectDef) -> Result<(), AllocError>
+    ensures { OnOk result (out.new ≡ puts out.old (formula_lexemes select.now.num ++ Word (codes "per") ∷ formula_lexemes select.now.den)) }
+{
+    write_formula(out, &select.num)?;
+    out.word(b"per")?;
+    write_formula(out, &select.den)
+}
+
 #[tactic(auto, using(spelling::proofs::Laws::writing))]
 fn print_select_def(out: &mut Writer, select: &SelectDef) -> Result<(), AllocError>
     ensures { OnOk result (out.new ≡ puts out.old (select_def_lexemes select.now)) }
@@ -87,9 +99,7 @@ fn print_select_def(out: &mut Writer, select: &SelectDef) -> Result<(), AllocErr
     out.word(b"selectivity")?;
     out.word(class_word(select.class).as_bytes())?;
     out.symbol(b"=")?;
-    write_formula(out, &select.num)?;
-    out.word(b"per")?;
-    write_formula(out, &select.den)
+    print_num_and_den(out, select)
 }
 
 #[tactic(auto, using(spelling::proofs::Laws::writing))]

@@ -1,5 +1,5 @@
 -- The parts of STARs, as items of lists.
-use Rattle.std.proofs.Common.{ℕ, List, codes}
+use Rattle.std.proofs.Common.{ℕ, codes}
 use Rattle.spelling.specs.Lexemes.{comma, bar}
 use Rattle.star_model.specs.WellFormedRules.{Scope, IsName, IsValue, IsAlternative}
 use Rattle.rule_grammar.specs.Values.{value_lexemes}

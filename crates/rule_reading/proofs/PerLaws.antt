@@ -1,5 +1,5 @@
 -- Tokens before and behind the first `per`.
-use Rattle.std.proofs.Common.{◌≡◌, ℕ, suc, ◌+◌, ◌-◌, ◌<◌, ◌≤◌, Bool, true, false, cond, if◌then◌else◌, List, [], ◌∷◌, Option, Some, None, option_map, take, drop, length, map, add-one, refl, sym, ap, ◌∙◌, arith}
+use Rattle.std.proofs.Common.{◌≡◌, ℕ, suc, ◌+◌, ◌-◌, ◌<◌, ◌≤◌, Bool, true, false, cond, if◌then◌else◌, List, [], ◌∷◌, Option, Some, None, option_map, take, drop, length, add-one, refl, sym, ap, ◌∙◌, arith}
 use Rattle.std.specs.List.{position_or_len}
 use Rattle.std.proofs.lemmas.List.{take_rest, take-map, drop-map, drop-drop, length-map}
 use Rattle.std.proofs.lemmas.List.Recursion.{is_position_or_len}
@@ -59,5 +59,5 @@ module _ (source : List ℕ) (tokens : List Token) (n : ℕ) (is : n ≡ positio
       let found = some_at (lexemes_of source tokens) (omega (arith, here, many, len, some)) in
       let first : lexemes_of source front ≡ take n (lexemes_of source tokens) = ap (lexemes_of source) front_is ∙ sym (take-map (lexeme_of source) n tokens) in
       let second : lexemes_of source (take (length back - 1) (drop 1 back)) ≡ drop (suc n) (lexemes_of source tokens) =
-          ap (lexemes_of source) (take_rest back 1 ∙ ap (drop 1) back_is ∙ drop-drop 1 n tokens ∙ ap (λ k. drop k tokens) (add-one n)) ∙ sym (drop-map (lexeme_of source) (suc n) tokens) in
+      ap (lexemes_of source) (take_rest back 1 ∙ ap (drop 1) back_is ∙ drop-drop 1 n tokens ∙ ap (λ k. drop k tokens) (add-one n)) ∙ sym (drop-map (lexeme_of source) (suc n) tokens) in
       (λ i. Some (first i, second i)) ∙ ap (λ k. Some (take k (lexemes_of source tokens), drop (suc k) (lexemes_of source tokens))) here ∙ sym found

@@ -27,11 +27,7 @@ fn parameter(alloc: Global, version: u8, cursor: &mut Cursor<'_>) -> Result<Para
 
 // Parameters with commas between.
 #[tactic(auto, unfolding(rule_grammar::specs::StarReading::parameters_at))]
-fn parameters(
-    alloc: Global,
-    version: u8,
-    cursor: &mut Cursor<'_>,
-) -> Result<List<Param>, Unread>
+fn parameters(alloc: Global, version: u8, cursor: &mut Cursor<'_>) -> Result<List<Param>, Unread>
     ensures { Answers (parameters_at version cursor.old) result cursor.new }
 {
     let mut parameters = List::new(alloc);
@@ -46,11 +42,7 @@ fn parameters(
 
 // What stands before the alternatives: the name and the parameters.
 #[tactic(auto, unfolding(rule_grammar::specs::StarReading::head_at))]
-fn head(
-    alloc: Global,
-    version: u8,
-    cursor: &mut Cursor<'_>,
-) -> Result<(Name, List<Param>), Unread>
+fn head(alloc: Global, version: u8, cursor: &mut Cursor<'_>) -> Result<(Name, List<Param>), Unread>
     ensures { Answers (head_at version cursor.old) result cursor.new }
 {
     cursor.the_word(b"star").ok_or(Unread::Strange)?;

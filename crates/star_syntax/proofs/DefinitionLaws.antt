@@ -32,9 +32,10 @@ few_nodes_defined version n source tokens Version spells few = tt
 few_nodes_defined version n source tokens (Select d) spells few =
     let size = ap (λ (l : List Lexeme). length l) spells.are in
     let parts = length-append spells.num (Word (codes "per") ∷ spells.den) in
-    let count = length-map tokens (lexeme_of source) in
-    (omega (arith, few_nodes select_variables spells.num d.num spells.spelled_num, size, parts, count, few),
-     omega (arith, few_nodes select_variables spells.den d.den spells.spelled_den, size, parts, count, few))
+    let count = length-map tokens (lexeme_of source) in (
+      omega (arith, few_nodes select_variables spells.num d.num spells.spelled_num, size, parts, count, few),
+      omega (arith, few_nodes select_variables spells.den d.den spells.spelled_den, size, parts, count, few),
+    )
 few_nodes_defined version n source tokens (Formula d) spells few =
     let size = ap (λ (l : List Lexeme). length l) spells.are in
     omega (arith, few_nodes cost_variables spells.formula d.formula spells.spelled, size, length-map tokens (lexeme_of source), few)

@@ -5,7 +5,7 @@ use Rattle.sb_text.specs.Refusal.{AreTokens}
 use Rattle.sb_text.specs.Tokens.{Lexed}
 use Rattle.sb_text.specs.Statements.{Part, parts}
 use Rattle.sb_text.specs.declared.token.Token.{Token}
-use Rattle.spelling.specs.Lexemes.{Lexeme, MaybeEnded, ended, statements_in}
+use Rattle.spelling.specs.Lexemes.{MaybeEnded, ended, statements_in}
 use Rattle.star_model.specs.Every.{Every}
 use Rattle.spelling.specs.Cursors.{part_said, IsPartOf}
 use Rattle.spelling.specs.Firsts.{FirstFrom, FirstAt}
@@ -16,7 +16,7 @@ use Rattle.spelling.proofs.Laws.{parts_said, parts_hold, parts_few}
 use Rattle.star_syntax.specs.declared.statements.RulesSoFar.{RulesSoFar}
 use Rattle.star_syntax.specs.Statements.{lists_of, AreSoFar, GoesOn}
 use Rattle.star_syntax.specs.Faults.{IsStrange, IsStrangeAt}
-use Rattle.star_syntax.specs.Versions.{version_in, version_of_text}
+use Rattle.star_syntax.specs.Versions.{version_by, version_in, version_of_text}
 use Rattle.star_syntax.proofs.SoFarLaws.{more_so_far}
 use Rattle.star_syntax.proofs.VersionLaws.{statements_say}
 
@@ -37,6 +37,17 @@ nothing_read source tokens are short = record {
   place = omega arith;
   few = omega (arith, parts_few source tokens are, short);
 }
+
+-- the version that the first statement says
+pub first_holds : (source : List ℕ) (tokens : List Token) (part : Part) (later : List Part) → AreTokens source tokens → parts tokens ≡ part ∷ later → IsPartOf source part
+first_holds source tokens part later are cut = (subst (Every (IsPartOf source)) cut (parts_hold source tokens are)).0
+
+pub said_by_first : (source : List ℕ) (tokens : List Token) (part : Part) (later : List Part) → AreTokens source tokens → parts tokens ≡ part ∷ later
+    → version_by (part_said source part) ≡ version_of_text source
+said_by_first source tokens part later are cut = sym (ap version_in (parts_said source tokens are ∙ ap (map (part_said source)) cut))
+
+pub said_by_none : (source : List ℕ) (tokens : List Token) → AreTokens source tokens → parts tokens ≡ [] → 1 ≡ version_of_text source
+said_by_none source tokens are none = sym (ap version_in (parts_said source tokens are ∙ ap (map (part_said source)) none))
 
 -- a statement that is ended
 is_ended : (statement : MaybeEnded) → statement.1 ≡ true → statement ≡ ended statement.0
@@ -76,7 +87,7 @@ first_strange version n (s ∷ done) are before later this place strange =
     let next : n + length (s ∷ done) ≡ n + 1 + length done = omega arith in (
       (λ un. un (understood version n (length before + 1) s are.0 place)),
       first_strange version (n + 1) done are.1 (before ++ ended s.lexemes ∷ []) later this (omega (arith, place, length-append before (ended s.lexemes ∷ [])))
-        (subst (λ (k : ℕ). IsUnderstood (SpellsNumbered version k) this → ⊥) next strange),
+          (subst (λ (k : ℕ). IsUnderstood (SpellsNumbered version k) this → ⊥) next strange),
     )
 
 pub strange_here : (source : List ℕ) (done : List RuleStatement) (part : Part) (left later : List Part) (read : RulesSoFar) (number : ℕ) → IsReading source done left read number

@@ -20,4 +20,4 @@ one_star (OfStar s) later is = omega (arith, is)
 -- as many as are in the rule file
 pub count_of : (statements : List RuleStatement) → length (stars_of statements) ≡ count_of_stars statements
 count_of [] = refl
-count_of (s ∷ later) = one_star s.defines later (count_of later)
+count_of (s ∷ later) = omega (arith, one_star s.defines later (count_of later), sum_by-append one_if_star (s ∷ []) later)

@@ -1,38 +1,11 @@
 -- The statements of a text say the version that its first statement is for.
-use Rattle.std.proofs.Common.{◌≡◌, ℕ, Bool, true, false, List, [], ◌∷◌, map, codes, refl, sym, ap, ◌∙◌}
-use Rattle.std.specs.Prelude.{nat_eq, ◌&&◌}
-use Rattle.std.proofs.lemmas.Bool.{and_parts, both_ways, eqb-true}
-use Rattle.star_model.proofs.Laws.{same_are}
-use Rattle.spelling.specs.Lexemes.{Lexeme, Word, Number, Text, Symbol, ended}
-use Rattle.rule_grammar.specs.Rules.{Definition, OfVersion, OfSelect, OfFormula, OfStar, version_lexemes}
+use Rattle.std.proofs.Common.{◌≡◌, ℕ, true, false, List, [], ◌∷◌, map, refl, ap, ◌∙◌}
+use Rattle.std.proofs.lemmas.Bool.{both_ways}
+use Rattle.spelling.specs.Lexemes.{Lexeme, ended}
+use Rattle.rule_grammar.specs.Rules.{Definition, OfVersion, OfSelect, OfFormula, OfStar}
 use Rattle.rule_grammar.specs.RuleLimits.{RuleStatement, SpellsNumbered, AreSpelled, version_of, version_said}
 use Rattle.star_syntax.specs.Statements.{lists_of}
-use Rattle.star_syntax.specs.Versions.{is_version, is_two, says_version, is_version_statement, version_by, version_in}
-
-word_is : (x : Lexeme) → is_version x ≡ true → x ≡ Word (codes "version")
-word_is (Word bytes) h = ap Word (same_are bytes (codes "version") h)
-word_is (Number n) h = cc
-word_is (Text bytes) h = cc
-word_is (Symbol bytes) h = cc
-
-number_is : (x : Lexeme) → is_two x ≡ true → x ≡ Number 2
-number_is (Word bytes) h = cc
-number_is (Number n) h = ap Number (eqb-true n 2 h)
-number_is (Text bytes) h = cc
-number_is (Symbol bytes) h = cc
-
-said_is : (lexemes : List Lexeme) → says_version lexemes ≡ true → lexemes ≡ version_lexemes
-said_is [] h = cc
-said_is (x ∷ []) h = cc
-said_is (x ∷ y ∷ []) h = let both = and_parts (is_version x) (is_two y) h in (λ i. word_is x both.0 i ∷ number_is y both.1 i ∷ [])
-said_is (x ∷ y ∷ z ∷ later) h = cc
-
--- the test of the statement that says the version
-pub says_from : (version n : ℕ) (lexemes : List Lexeme) → is_version_statement version n lexemes ≡ true → SpellsNumbered version n lexemes OfVersion
-says_from version n lexemes h =
-    let both = and_parts (nat_eq n 1 && nat_eq version 2) (says_version lexemes) h in
-    let numbers = and_parts (nat_eq n 1) (nat_eq version 2) both.0 in
-    (eqb-true n 1 numbers.0, eqb-true version 2 numbers.1, said_is lexemes both.1)
+use Rattle.star_syntax.specs.Versions.{is_version_statement, version_by, version_in}
 
 pub says_not : (version n : ℕ) (lexemes : List Lexeme) → is_version_statement version n lexemes ≡ false → SpellsNumbered version n lexemes OfVersion → ⊥
 says_not version n lexemes h says =

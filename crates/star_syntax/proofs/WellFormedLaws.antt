@@ -81,9 +81,9 @@ small_select_numbers : (version n : ℕ) (before : List RuleStatement) (lexemes 
     → (IsBeyond before (record { lexemes = lexemes; defines = OfSelect d }) → ⊥) → HasGreatNumber (select_def_lexemes d) → ⊥
 small_select_numbers version n before lexemes d spells fine great =
     fine (limit.Number, rw spells.are (by (great_parts (formula_lexemes d.num) (Word (codes "per") ∷ formula_lexemes d.den) great))) where
-  by : HasGreatNumber (formula_lexemes d.num) ⊎ HasGreatNumber (formula_lexemes d.den) → HasGreatNumber (spells.num ++ Word (codes "per") ∷ spells.den)
-  by (inl num) = great_front spells.num (Word (codes "per") ∷ spells.den) (great_numbers_stay select_variables spells.num d.num spells.spelled_num num)
-  by (inr den) = great_back spells.num (Word (codes "per") ∷ spells.den) (great_numbers_stay select_variables spells.den d.den spells.spelled_den den)
+      by : HasGreatNumber (formula_lexemes d.num) ⊎ HasGreatNumber (formula_lexemes d.den) → HasGreatNumber (spells.num ++ Word (codes "per") ∷ spells.den)
+      by (inl num) = great_front spells.num (Word (codes "per") ∷ spells.den) (great_numbers_stay select_variables spells.num d.num spells.spelled_num num)
+      by (inr den) = great_back spells.num (Word (codes "per") ∷ spells.den) (great_numbers_stay select_variables spells.den d.den spells.spelled_den den)
 
 keeps_star : (version n : ℕ) (before : List RuleStatement) (lexemes : List Lexeme) (s : StarDef) → SpellsStar version n lexemes s
     → (IsBeyond before (record { lexemes = lexemes; defines = OfStar s }) → ⊥) → KeepsStarLimits s

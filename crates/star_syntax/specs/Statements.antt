@@ -11,7 +11,7 @@ use Rattle.spelling.specs.Lexemes.{Lexeme, MaybeEnded}
 use Rattle.spelling.specs.Firsts.{NoneHas}
 use Rattle.spelling.specs.Syntax.{IsUnderstood}
 use Rattle.rule_grammar.specs.Rules.{Definition, OfVersion, OfSelect, OfFormula, OfStar}
-use Rattle.rule_grammar.specs.RuleLimits.{RuleStatement, SpellsNumbered, AreSpelled, SaysRules, IsBeyond, count_of_stars}
+use Rattle.rule_grammar.specs.RuleLimits.{RuleStatement, SpellsNumbered, AreSpelled, SaysRules, IsBeyond}
 use Rattle.spelling.specs.declared.unread.Unread.{Unread}
 use Rattle.spelling.specs.declared.unread.Unread.TheVariants.{Strange, Memory}
 use Rattle.star_syntax.specs.declared.statements.RulesSoFar.{RulesSoFar}

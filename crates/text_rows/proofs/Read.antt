@@ -9,7 +9,7 @@ use Rattle.star_model.specs.Monotone.{nodes}
 use Rattle.star_model.specs.declared.formula.Formula.{Formula}
 use Rattle.spelling.specs.Lexemes.{lexeme_of, lexemes_of}
 use Rattle.spelling.specs.Cursors.{AreTokensOf}
-use Rattle.cost_formula.specs.Formulas.{SpellsFormula}
+use Rattle.cost_formula.specs.Formulas.{cost_variables, SpellsFormula}
 use Rattle.spelling.proofs.Laws.{own_tokens}
 use Rattle.cost_formula.proofs.Laws.{few_nodes}
 
@@ -19,6 +19,6 @@ are_tokens source tokens are = subst (λ (l : Lexed). AreTokensOf source l.0) ar
 pub small : (source : List ℕ) (tokens : List Token) (f : Formula) → AreTokens source tokens → length source ≤ 1048576 → SpellsFormula (lexemes_of source tokens) f → length (nodes f) < 4294967296
 small source tokens f are short spells =
     let few : length tokens ≤ length source = subst (λ (l : Lexed). length l.0 ≤ length source) are.lexed (length-lexed source) in
-    omega (arith, few, short, few_nodes (lexemes_of source tokens) f spells, length-map tokens (lexeme_of source))
+    omega (arith, few, short, few_nodes cost_variables (lexemes_of source tokens) f spells, length-map tokens (lexeme_of source))
 
 pub ruleset reads = (are_tokens, small)

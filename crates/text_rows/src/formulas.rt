@@ -51,6 +51,10 @@ pub fn value(alloc: Global, text: &str) -> Result<String, AllocError> {
         preds: zero,
         cpu: zero,
         net: zero,
+        distinct1: zero,
+        rows1: zero,
+        distinct2: zero,
+        rows2: zero,
     };
     let value = eval(&formula, &vars).get();
     format!(in alloc; "{value}")

@@ -68,7 +68,7 @@ cheap_is_underived on = go (no_other (record read_alone { cost = 1 }) on.of_goal
 
 -- ---- the least cost
 
-no_chain : (chain : List GlueOp) → is_chain (root_requirement query) chain ≡ true → chain ≡ []
+pub no_chain : (chain : List GlueOp) → is_chain (root_requirement query) chain ≡ true → chain ≡ []
 unfolding is_chain
 no_chain [] h = refl
 no_chain (word.Sort ∷ chain) h = cc

@@ -40,11 +40,11 @@ stored e = expr.Unary flavour.Store (value.NoCols ∷ []) e
 abbrev giving : PlanExpr → Alternative
 giving e = record { ranges = []; condition = None; body = e }
 
-made_of : {A : Type 0} (f : A → DerivedPlan) (o : Option A) (x : DerivedPlan) → option_map f o ≡ Some x → (a : A) × (o ≡ Some a) × (f a ≡ x)
+pub made_of : {A : Type 0} (f : A → DerivedPlan) (o : Option A) (x : DerivedPlan) → option_map f o ≡ Some x → (a : A) × (o ≡ Some a) × (f a ≡ x)
 made_of f (Some a) x h = (a, refl, cc)
 made_of f None x h = cc
 
-one_vector : (v w : Props) (o : Option Props) → o ≡ Some v → o ≡ Some w → v ≡ w
+pub one_vector : (v w : Props) (o : Option Props) → o ≡ Some v → o ≡ Some w → v ≡ w
 one_vector v w o p q = let e : Some v ≡ Some w = sym p ∙ q in cc
 
 heap_op : operator_of flavour.AccessHeap (values_of query arguments ((value.Variable (codes "A") 0) ∷ (value.Variable (codes "J") 1) ∷ [])) ≡ op.AccessHeap 1 0
@@ -76,15 +76,15 @@ of_stored below v w all steps e h =
 
 -- ---- the alternatives
 
-bind : {A B : Type 0} (f : A → Option B) (o : Option A) (b : B) → option_and_then f o ≡ Some b → (a : A) × (o ≡ Some a) × (f a ≡ Some b)
+pub bind : {A B : Type 0} (f : A → Option B) (o : Option A) (b : B) → option_and_then f o ≡ Some b → (a : A) × (o ≡ Some a) × (f a ≡ Some b)
 bind f None b h = cc
 bind f (Some a) b h = (a, refl, h)
 
-unchosen : {A : Type 0} (b : Bool) (o : Option A) (a : A) → (if b then None else o) ≡ Some a → o ≡ Some a
+pub unchosen : {A : Type 0} (b : Bool) (o : Option A) (a : A) → (if b then None else o) ≡ Some a → o ≡ Some a
 unchosen true o a h = cc
 unchosen false o a h = h
 
-at_three : {A : Type 0} (x y z a : A) (n : ℕ) → slice_get (x ∷ y ∷ z ∷ []) n ≡ Some a → (x ≡ a) ⊎ (y ≡ a) ⊎ (z ≡ a)
+pub at_three : {A : Type 0} (x y z a : A) (n : ℕ) → slice_get (x ∷ y ∷ z ∷ []) n ≡ Some a → (x ≡ a) ⊎ (y ≡ a) ⊎ (z ≡ a)
 at_three x y z a zero h = inl cc
 at_three x y z a (suc zero) h = inr (inl cc)
 at_three x y z a (suc (suc zero)) h = inr (inr cc)
@@ -128,7 +128,7 @@ of_call e h =
 
 -- ---- the goal
 
-no_split : (split : Option (ℕ × ℕ)) → may_split 1 split ≡ true → None ≡ split
+pub no_split : (split : Option (ℕ × ℕ)) → may_split 1 split ≡ true → None ≡ split
 unfolding members has places
 no_split None h = refl
 no_split (Some p) h = cc

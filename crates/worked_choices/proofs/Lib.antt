@@ -1,3 +1,5 @@
 mod Vectors
 mod Derived
 mod Choices
+mod Indexes
+mod Intersections

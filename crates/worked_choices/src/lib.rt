@@ -1,12 +1,13 @@
-//! Worked choices: which plan costs least and what is on a frontier, said of one small query by rules that derive three plans of it.
+//! Worked choices: which plan costs least and what is on a frontier, said of two small queries by rules that derive a few plans of each.
 //!
-//! The table is read, or stored too, or stored twice. Each claim stands in both ways: of a plan of which it holds, and refuted of one
-//! that comes close.
+//! The table of the first is read, or stored too, or stored twice; that of the second is read, or the rows that one index gives, or
+//! those that two give. Each claim stands in both ways: of a plan of which it holds, and refuted of one that comes close.
 #![tactic(auto)]
 
 ghost use Rattle.star_model.specs.Derivations.{IsLeast, IsOfGoal, OnFrontier};
 ghost use Rattle.star_model.specs.declared.plans.Props.{Props};
 ghost use Rattle.worked_choices.specs.Storing.{query, rules, read_alone, and_stored, stored_again};
+ghost use Rattle.worked_choices.specs.Indexing as indexing;
 ghost use Rattle.worked_choices.specs.Claims.{HasLeastCost, IsOneOf};
 ghost use Rattle.worked_plans.specs.Derivations as tree;
 
@@ -31,4 +32,10 @@ pub fn two_are_on_the_frontier()
     ensures dearer { OnFrontier query rules 1 0 and_stored }
     ensures covered { OnFrontier query rules 1 0 stored_again → ⊥ }
     ensures underived { OnFrontier query rules 1 0 (record read_alone { cost = 1 }) → ⊥ }
+{}
+
+/// The rows that both indexes give cost least of all that the rules derive. Those that one index gives cost more, and so does the table.
+pub fn the_intersection_is_least()
+    ensures cheaper { HasLeastCost indexing.query indexing.rules tree.both_indexes 385 }
+    ensures dearer { (v : Props) → IsLeast indexing.query indexing.rules indexing.by_one_index v → ⊥ }
 {}

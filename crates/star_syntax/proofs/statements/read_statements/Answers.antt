@@ -6,7 +6,7 @@ use Rattle.star_syntax.proofs.statements.read_statements.Goals as goal
 pub loop-statement-init : goal.loop-statement-init
 loop-statement-init c =
     let same = ap parts_of_iter c.into_iter-statement-iterator.ensures.into_iter_gives ∙ c.statements-statement-items.ensures in
-    ([], rw (same, c.new.ensures, c.new-2.ensures) (nothing_read c.args.source.now c.args.tokens.now c.requires.tokens c.requires.size))
+    ([], rw (same, c.said_version.ensures, c.new.ensures, c.new-2.ensures, c.new-3.ensures) (nothing_read c.args.source.now c.args.tokens.now c.requires.tokens c.requires.size))
 
 pub loop-statement-preserved : goal.loop-statement-preserved
 loop-statement-preserved c =
