@@ -2,3 +2,5 @@ mod Reading
 mod PinWalks
 mod SearchRules
 mod Skipped
+mod PinOrderLaws
+pub mod Laws

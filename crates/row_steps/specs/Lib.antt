@@ -3,3 +3,4 @@ pub mod Types
 pub mod PinOrders
 pub mod Codes
 pub mod Groups
+pub mod Numbers
