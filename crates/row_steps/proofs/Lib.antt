@@ -1,0 +1,6 @@
+mod Reading
+mod PinWalks
+mod SearchRules
+mod Skipped
+mod PinOrderLaws
+pub mod Laws
