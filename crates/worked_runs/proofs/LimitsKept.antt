@@ -1,4 +1,4 @@
--- Rule files that keep the limits by far: what a text with such rules is read as.
+-- Rule files of version 1 that keep the limits by far: what a text with such rules is read as.
 use Rattle.std.proofs.Common.{◌≡◌, ◌+◌, ◌≤◌, ◌<◌, ℕ, zero, suc, Bool, true, false, ◌&&◌, List, [], ◌∷◌, ◌++◌, length, map, refl, ap, sym, ◌∙◌, arith, inl, inr}
 use Rattle.std.specs.Prelude.{nat_le, Contains}
 use Rattle.std.specs.List.{list_all}
@@ -11,14 +11,15 @@ use Rattle.star_model.specs.declared.faults.LimitKind.{LimitKind}
 use Rattle.star_model.specs.declared.faults.LimitKind.TheVariants as limit
 use Rattle.star_model.specs.declared.rules.Alternative.{Alternative}
 use Rattle.star_model.specs.declared.rules.FormulaDef.{FormulaDef}
+use Rattle.star_model.specs.declared.rules.SelectDef.{SelectDef}
 use Rattle.star_model.specs.declared.rules.StarDef.{StarDef}
 use Rattle.spelling.specs.Firsts.{NoneFrom}
 use Rattle.spelling.specs.Lexemes.{Lexeme, Word, Number, Text, Symbol}
 use Rattle.star_model.specs.Every.{Every}
 use Rattle.spelling.specs.Limits.{HasGreatNumber, HasLongWord}
-use Rattle.rule_grammar.specs.Rules.{Definition, OfFormula, OfStar, SpellsDefinitions}
+use Rattle.rule_grammar.specs.Rules.{Definition, OfVersion, OfSelect, OfFormula, OfStar, SpellsDefinitions}
 use Rattle.rule_grammar.specs.Rules as spec
-use Rattle.rule_grammar.specs.RuleLimits.{RuleStatement, AreSpelled, count_of_stars, is_star, Beyond, IsBeyond}
+use Rattle.rule_grammar.specs.RuleLimits.{RuleStatement, SpellsNumbered, AreSpelled, version_of, version_said, count_of_stars, is_star, Beyond, IsBeyond}
 use Rattle.star_model.specs.WellFormedRules.{nesting}
 
 left : (a b : Bool) → (a && b) ≡ true → a ≡ true
@@ -49,7 +50,10 @@ alternative_fits a = nat_le (length a.ranges) 2 && nat_le (nesting a.body) 8
 abbrev pub star_fits : StarDef → Bool
 star_fits s = nat_le (length s.params) 8 && nat_le (length s.alternatives) 16 && list_all alternative_fits s.alternatives
 
+-- version 1 has no statements of the first two kinds
 abbrev definition_fits : Definition → Bool
+definition_fits OfVersion = false
+definition_fits (OfSelect d) = false
 definition_fits (OfFormula d) = formula_fits d
 definition_fits (OfStar s) = star_fits s
 
@@ -136,6 +140,8 @@ statement_within : (earlier : List RuleStatement) → length earlier < 64 → (s
 statement_within earlier few statement fits beyond = go statement.defines fits.definition beyond.1
   where
     go : (d : Definition) → definition_fits d ≡ true → Beyond earlier (record { lexemes = statement.lexemes; defines = d }) beyond.0 → ⊥
+    go OfVersion h b = cc
+    go (OfSelect d) h b = cc
     go (OfFormula d) h b = formula_within earlier few statement.lexemes fits.words d h beyond.0 b
     go (OfStar s) h b = star_within earlier few statement.lexemes fits.words s h beyond.0 b
 
@@ -147,22 +153,34 @@ none_beyond before (s ∷ later) few fits =
 
 -- the statements of a text, as what they define
 abbrev pub Statements : ℕ → List (List Lexeme) → Type 0
-Statements n lists = (statements : List RuleStatement) × AreSpelled n statements × (map (λ s. s.lexemes) statements ≡ lists) × Every Fits statements
+Statements n lists = (statements : List RuleStatement) × AreSpelled 1 n statements × (map (λ s. s.lexemes) statements ≡ lists) × Every Fits statements
 
-pub statements_of : {n : ℕ} {lists : List (List Lexeme)} {formulas : List FormulaDef} {stars : List StarDef} → SpellsDefinitions n lists formulas stars
+pub statements_of : {n : ℕ} {lists : List (List Lexeme)} {selects : List SelectDef} {formulas : List FormulaDef} {stars : List StarDef} → SpellsDefinitions 1 n lists selects formulas stars
     → list_all lexemes_fit lists ≡ true → list_all formula_fits formulas ≡ true → list_all star_fits stars ≡ true → Statements n lists
 statements_of spec.none a b c = ([], tt, refl, tt)
-statements_of (spec.formula {number} {lexemes} {later} {d} {formulas} {stars} p h) a b c =
+statements_of (spec.select p h) a b c = let not_two : 1 ≡ 2 = p.of_version in cc
+statements_of (spec.formula {number} {lexemes} {later} {d} {selects} {formulas} {stars} p h) a b c =
     let more = statements_of h (right (lexemes_fit lexemes) _ a) (right (formula_fits d) _ b) c in (
       record { lexemes = lexemes; defines = OfFormula d } ∷ more.0,
       (p, more.1),
       ap (λ l. lexemes ∷ l) more.2,
       (record { words = left (lexemes_fit lexemes) _ a; definition = left (formula_fits d) _ b }, more.3),
     )
-statements_of (spec.star {number} {lexemes} {later} {s} {formulas} {stars} p h) a b c =
+statements_of (spec.star {number} {lexemes} {later} {s} {selects} {formulas} {stars} p h) a b c =
     let more = statements_of h (right (lexemes_fit lexemes) _ a) b (right (star_fits s) _ c) in (
       record { lexemes = lexemes; defines = OfStar s } ∷ more.0,
       (p, more.1),
       ap (λ l. lexemes ∷ l) more.2,
       (record { words = left (lexemes_fit lexemes) _ a; definition = left (star_fits s) _ c }, more.3),
     )
+
+says_one : (lexemes : List Lexeme) (d : Definition) → SpellsNumbered 1 1 lexemes d → version_of d ≡ 1
+says_one lexemes OfVersion p = let not_two : 1 ≡ 2 = p.1 in cc
+says_one lexemes (OfSelect d) p = refl
+says_one lexemes (OfFormula d) p = refl
+says_one lexemes (OfStar s) p = refl
+
+-- none of them says a version
+pub version_one : (statements : List RuleStatement) → AreSpelled 1 1 statements → version_said statements ≡ 1
+version_one [] spelled = refl
+version_one (s ∷ later) spelled = says_one s.lexemes s.defines spelled.0

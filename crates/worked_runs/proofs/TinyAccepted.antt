@@ -6,7 +6,7 @@ use Rattle.star_model.specs.Vectors.{same_numbers}
 use Rattle.star_model.specs.Costs.{formula_of}
 use Rattle.star_model.specs.Monotone.{first_offending, is_free, nodes, offends}
 use Rattle.star_model.specs.Kinds.{kind_of}
-use Rattle.star_model.specs.Accepted.{IsAccepted, Never, OfStarTest, OfFormula, Twice, Reaches, directly, further, occurs, is_unknown, is_star_twice, is_formula_twice, has_wrong_arity, has_wrong_kind, bodies_of, height_of, weight_of, values_in, references_in, operators_in, glues_in, values_of_condition, variables_in, height_within, weight_within, references_of, lacks_root, lacks_formula}
+use Rattle.star_model.specs.Accepted.{IsAccepted, Never, OfStarTest, OfFormula, Twice, Reaches, directly, further, occurs, is_unknown, is_star_twice, is_formula_twice, is_select_twice, has_wrong_arity, has_wrong_kind, bodies_of, height_of, weight_of, values_in, references_in, operators_in, glues_in, values_of_condition, variables_in, height_within, weight_within, references_of, lacks_root, lacks_formula}
 use Rattle.star_model.specs.declared.rules.StarDef.{StarDef}
 use Rattle.star_model.specs.declared.rules.FormulaDef.{FormulaDef}
 use Rattle.star_model.specs.declared.rules.Flavour.{Flavour}
@@ -62,6 +62,7 @@ has_formulas flavour.Probe = refl
 has_formulas flavour.JoinNl = refl
 has_formulas flavour.JoinMerge = refl
 has_formulas flavour.JoinHash = refl
+has_formulas flavour.Intersect = refl
 
 -- a test that no statement passes is no fault of a STAR, or of a formula
 no_star : (test : StarDef → Bool) → list_all (λ s. not (test s)) tiny_rules.stars ≡ true → Never tiny_rules (OfStarTest tiny_rules test)
@@ -73,7 +74,8 @@ no_formula test h k case = none_contained test tiny_rules.formulas h case.0 case
 once : Never tiny_rules (Twice tiny_rules)
 unfolding tiny_rules
 once k (inl case) = no_star (is_star_twice tiny_rules) refl k case
-once k (inr case) = no_formula (is_formula_twice tiny_rules) refl k case
+once k (inr (inl case)) = no_formula (is_formula_twice tiny_rules) refl k case
+once k (inr (inr case)) = none_contained (is_select_twice tiny_rules) tiny_rules.selects refl case.0 case.1 case.3
 
 pub tiny_accepted : IsAccepted tiny_rules
 unfolding tiny_rules is_free nodes offends kind_of values_in references_in operators_in glues_in values_of_condition variables_in height_within weight_within

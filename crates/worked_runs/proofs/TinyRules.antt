@@ -8,14 +8,14 @@ use Rattle.star_model.specs.Monotone.{nodes}
 use Rattle.spelling.specs.Firsts.{NoneHas}
 use Rattle.spelling.specs.Lexemes.{Lexeme, MaybeEnded, IsStatements, ended, statements_in}
 use Rattle.rule_grammar.specs.Rules.{SpellsRules}
-use Rattle.rule_grammar.specs.RuleLimits.{RuleStatement, SaysRules, IsBeyond}
+use Rattle.rule_grammar.specs.RuleLimits.{RuleStatement, AreSpelled, SaysRules, IsBeyond}
 use Rattle.star_model.specs.WellFormedRules.{nesting}
 use Rattle.rule_grammar.specs.Tiny.{tiny_lexemes, tiny_rules}
 use Rattle.rule_grammar.proofs.Laws.{tiny_is_spelled}
 use Rattle.star_syntax.specs.Faults.{ReadsRules}
 use Rattle.star_syntax.proofs.Laws.{no_fault, rules_formed, rules_fit}
 use Rattle.stars_core.specs.Judging.{RulesPass}
-use Rattle.worked_runs.proofs.LimitsKept.{lexemes_fit, formula_fits, star_fits, Statements, statements_of, none_beyond}
+use Rattle.worked_runs.proofs.LimitsKept.{lexemes_fit, formula_fits, star_fits, Statements, statements_of, none_beyond, version_one}
 use Rattle.worked_runs.proofs.TinyAccepted.{tiny_accepted}
 
 -- a heap access for each table, with the costs of the operators of Glue
@@ -53,6 +53,7 @@ one_list (x ∷ a) (y ∷ b) e =
     (λ i. first i ∷ one_list a b parts.1 i)
 
 are_tiny : spells.statements ≡ tiny_lexemes
+unfolding tiny_rules
 are_tiny = one_list spells.statements tiny_lexemes (sym spells.are.are ∙ are_statements.are)
 
 lexemes_are_few : list_all lexemes_fit tiny_lexemes ≡ true
@@ -68,10 +69,15 @@ unfolding tiny_rules nesting
 stars_are_small = refl
 
 statements : Statements 1 spells.statements
+unfolding tiny_rules
 statements = statements_of spells.define (subst (λ (l : List (List Lexeme)). list_all lexemes_fit l ≡ true) (sym are_tiny) lexemes_are_few) formulas_are_short stars_are_small
 
 says : SaysRules tiny_text statements.0
-says = record { are = subst (λ (l : List (List Lexeme)). IsStatements tiny_text l) (sym statements.2) spells.are; spelled = statements.1 }
+unfolding tiny_rules
+says = record {
+  are = subst (λ (l : List (List Lexeme)). IsStatements tiny_text l) (sym statements.2) spells.are;
+  spelled = subst (λ n. AreSpelled n 1 statements.0) (sym (version_one statements.0 statements.1)) statements.1;
+}
 
 ten : length tiny_lexemes ≡ 10
 unfolding tiny_lexemes

@@ -19,7 +19,7 @@ use Rattle.spelling.specs.Firsts.{NoneHas}
 use Rattle.spelling.specs.Limits.{HasGreatNumber, HasLongWord}
 use Rattle.catalogue.specs.Catalogues.{TablePart, CatalogueStatement, Site, Table, catalogue_lexemes, table_from, catalogue_of}
 use Rattle.query_graph.specs.Queries.{QueryStatement, only_column, query_lexemes, query_of}
-use Rattle.star_model.specs.Selectivity.{weighed}
+use Rattle.star_model.specs.Selectivity.{selects_of, weighed}
 use Rattle.rule_grammar.specs.Tiny.{tiny_rules}
 use Rattle.catalogue.specs.Defined.{NamesUnknown, DefinesTwice}
 use Rattle.catalogue.specs.Beyond.{Beyond, IsBeyond, IsFileName}
@@ -269,7 +269,7 @@ some_told =
       words,
       shelf,
       three tiny_text catalogue_text query_text,
-      (tiny_rules, query),
+      (tiny_rules, weighed (selects_of tiny_rules) query),
       record {
         files = files;
         told = refl;
