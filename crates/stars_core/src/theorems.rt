@@ -2,6 +2,7 @@
 ghost use Rattle.std.specs.Prelude.{◌≡◌, ℕ, List, []};
 ghost use Rattle.sb_outside.specs.Shelf.{ShelfState};
 ghost use Rattle.sb_outside.specs.Sink.{SinkState};
+ghost use Rattle.star_model.specs.Selectivity.{selects_of, weighed};
 ghost use Rattle.star_model.specs.declared.catalogue.Catalogue.{Catalogue as CatalogueTree};
 ghost use Rattle.star_model.specs.declared.query.Query.{Query as QueryTree};
 ghost use Rattle.star_model.specs.declared.rules.RuleFile.{RuleFile};
@@ -29,10 +30,11 @@ pub fn done_says()
     ensures { (words : CommandLine) (shelf shelf' : ShelfState) (out out' err err' : SinkState) → Answered Status.Done words shelf shelf' out out' err err' → DoneSays words out out' }
 {}
 
-/// Three texts that have no fault are accepted, and say the rules and the query that they are judged to spell.
+/// Three texts that have no fault are accepted, and say the rules and the query that they are judged to spell, each predicate with the
+/// selectivity that the rules give.
 pub fn texts_without_fault_say()
     ensures pass { (r c q : List ℕ) (rules : RuleFile) (catalogue : CatalogueTree) (query : QueryTree) → RulesPass r rules → CataloguePasses c catalogue → QueryPasses catalogue q query
         → PassAll [] (three r c q) }
     ensures say { (r c q : List ℕ) (rules : RuleFile) (catalogue : CatalogueTree) (query : QueryTree) → RulesPass r rules → CataloguePasses c catalogue → QueryPasses catalogue q query
-        → SaysCase r c q rules query }
+        → SaysCase r c q rules (weighed (selects_of rules) query) }
 {}
