@@ -19,7 +19,9 @@ pub fn missing_at_glue(
     env: &Env,
 ) -> Option<Goal>
     requires { WellFormedQuery search.now.query.now }
-    ensures { FirstMissing search.now.memo.now (AsksFrom search.now.query.now search.now.rules.now (Expression (made.Glue stream.now applied.now) env.now)) result }
+    ensures { FirstMissing search.now.memo.now
+        (AsksFrom search.now.query.now search.now.rules.now
+        (Expression (made.Glue stream.now applied.now) env.now)) result }
 {
     let tables = tables_of(stream, env);
     let goal = glued_goal(search.query, tables, preds(applied, env, search.query));

@@ -17,7 +17,8 @@ use star_model::sets::QuantSet;
 use star_value::root_values;
 use table_set_memo::Memo;
 
-/// The first goal that the split of this goal asks for, and that the memo doesn't hold. It takes no memory.
+/// The first goal that the split of this goal asks for, and that the memo doesn't hold. It takes no
+/// memory.
 pub fn missing_in_split<'a>(
     rules: &'a CheckedRules,
     query: &'a Query,
@@ -28,7 +29,8 @@ pub fn missing_in_split<'a>(
     requires query { WellFormedQuery query.now }
     requires goal { IsGoal query.now goal.now.tables goal.now.pushed }
     requires split { may_split goal.now.tables (Some split) ≡ true }
-    ensures { FirstMissing memo.now (AsksFrom query.now rules.now (root_call goal.now.tables goal.now.pushed (Some split))) result }
+    ensures { FirstMissing memo.now (AsksFrom query.now rules.now
+        (root_call goal.now.tables goal.now.pushed (Some split))) result }
 {
     let search = Search {
         rules,
@@ -43,7 +45,9 @@ pub fn missing_in_split<'a>(
 fn missing_in_root(search: &Search<'_>, split: (QuantSet, QuantSet)) -> Option<Goal>
     requires posed { IsPosed search.now }
     requires split { may_split search.now.goal.tables (Some split) ≡ true }
-    ensures { FirstMissing search.now.memo.now (AsksFrom search.now.query.now search.now.rules.now (root_call search.now.goal.tables search.now.goal.pushed (Some split))) result }
+    ensures { FirstMissing search.now.memo.now
+        (AsksFrom search.now.query.now search.now.rules.now
+        (root_call search.now.goal.tables search.now.goal.pushed (Some split))) result }
 {
     let (left, right) = split;
     let root = root_name(search.rules, Some((left, right)));

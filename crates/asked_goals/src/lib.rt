@@ -1,4 +1,5 @@
-//! Which goals another asks for, as far as a memo doesn't hold them: found by a walk over the rules, one at a time. It takes no memory.
+//! Which goals another asks for, as far as a memo doesn't hold them: found by a walk over the
+//! rules, one at a time. It takes no memory.
 #![tactic(auto)]
 
 mod glues;

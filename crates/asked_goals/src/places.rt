@@ -1,5 +1,6 @@
-// The first goal that a place asks for and the memo doesn't hold. The walk goes over the same places as a search for plans, and each
-// function's recursion goes down in the same way: references lead to lower STARs, and the inputs of a body nest less deep.
+// The first goal that a place asks for and the memo doesn't hold. The walk goes over the same
+// places as a search for plans, and each function's recursion goes down in the same way: references
+// lead to lower STARs, and the inputs of a body nest less deep.
 
 ghost use Rattle.std.specs.Prelude.{[], ◌∷◌};
 ghost use Rattle.star_model.specs.Expected.{Call, Expression};
@@ -20,7 +21,8 @@ use star_value::{Env, meets, range, values};
 pub fn missing_in(search: &Search<'_>, expr: &PlanExpr, env: &Env) -> Option<Goal>
     requires posed { IsPosed search.now }
     requires leads { LeadsTo search.now (Expression expr.now env.now) }
-    ensures { FirstMissing search.now.memo.now (AsksFrom search.now.query.now search.now.rules.now (Expression expr.now env.now)) result }
+    ensures { FirstMissing search.now.memo.now
+        (AsksFrom search.now.query.now search.now.rules.now (Expression expr.now env.now)) result }
 {
     search.rules.stands();
     match expr {
@@ -55,7 +57,8 @@ pub fn missing_in(search: &Search<'_>, expr: &PlanExpr, env: &Env) -> Option<Goa
 pub fn missing_in_call(search: &Search<'_>, star: &Name, env: &Env) -> Option<Goal>
     requires posed { IsPosed search.now }
     requires leads { LeadsTo search.now (Call star.now env.now) }
-    ensures { FirstMissing search.now.memo.now (AsksFrom search.now.query.now search.now.rules.now (Call star.now env.now)) result }
+    ensures { FirstMissing search.now.memo.now
+        (AsksFrom search.now.query.now search.now.rules.now (Call star.now env.now)) result }
 {
     search.rules.stands();
     let found = search.rules.star(star)?;
@@ -85,7 +88,9 @@ fn missing_in_ranges(
 ) -> Option<Goal>
     requires posed { IsPosed search.now }
     requires inside { IsInside search.now star.now alternative.now ranges.now env.now }
-    ensures { FirstMissing search.now.memo.now (AsksOver search.now.query.now search.now.rules.now alternative.now ranges.now env.now) result }
+    ensures { FirstMissing search.now.memo.now
+        (AsksOver search.now.query.now search.now.rules.now alternative.now ranges.now env.now)
+        result }
 {
     match ranges {
         [] => missing_in_body(search, star, alternative, env),
@@ -105,7 +110,9 @@ fn missing_in_members(
 ) -> Option<Goal>
     requires posed { IsPosed search.now }
     requires inside { IsInside search.now star.now alternative.now (first.now ∷ more.now) env.now }
-    ensures { FirstMissing search.now.memo.now (AsksOver search.now.query.now search.now.rules.now alternative.now (first.now ∷ more.now) env.now) result }
+    ensures { FirstMissing search.now.memo.now
+        (AsksOver search.now.query.now search.now.rules.now alternative.now (first.now ∷ more.now)
+        env.now) result }
 {
     for member in range(&first.range, env, search.query) {
         let next = with_value(env, member);
@@ -126,7 +133,8 @@ fn missing_in_body(
 ) -> Option<Goal>
     requires posed { IsPosed search.now }
     requires inside { IsInside search.now star.now alternative.now [] env.now }
-    ensures { FirstMissing search.now.memo.now (AsksOver search.now.query.now search.now.rules.now alternative.now [] env.now) result }
+    ensures { FirstMissing search.now.memo.now
+        (AsksOver search.now.query.now search.now.rules.now alternative.now [] env.now) result }
 {
     search.rules.stands();
     if meets(&alternative.condition, env, search.query) {

@@ -37,7 +37,8 @@ fn closed_without(
     Ok(is_closed)
 }
 
-/// Whether the memo is closed for the query's goal while it is empty and when it is expanded, and the goals without which it isn't.
+/// Whether the memo is closed for the query's goal while it is empty and when it is expanded, and
+/// the goals without which it isn't.
 pub fn told_closed(alloc: Global, rules: &CheckedRules, query: &Query) -> Result<String, AllocError>
     requires { WellFormedQuery query.now }
 {

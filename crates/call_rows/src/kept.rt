@@ -20,8 +20,9 @@ fn found(alloc: Global, table: &RefTable, star: &Name, env: &Env) -> Result<Stri
     }
 }
 
-/// What a table has for the call of a root STAR before the set of the query's goal is kept for it, and after; and then for another root STAR
-/// with the same values, and for the same with other values, or with none.
+/// What a table has for the call of a root STAR before the set of the query's goal is kept for it,
+/// and after; and then for another root STAR with the same values, and for the same with other
+/// values, or with none.
 pub fn told_kept(alloc: Global, rules: &CheckedRules, query: &Query) -> Result<String, AllocError>
     requires { WellFormedQuery query.now }
 {

@@ -1,7 +1,8 @@
-//! Calls of the search that no command makes, over the files beside it: a call for each line of the input, and what came of it.
+//! Calls of the search that no command makes, over the files beside it: a call for each line of the
+//! input, and what came of it.
 //!
-//! A line has the name of the call, and those of a rule file, a catalogue and a query. What is told of sets is as an independent program
-//! has it, which shares nothing with this repository.
+//! A line has the name of the call, and those of a rule file, a catalogue and a query. What is told
+//! of sets is as an independent program has it, which shares nothing with this repository.
 #![tactic(auto)]
 
 mod asked;

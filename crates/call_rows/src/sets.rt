@@ -116,7 +116,8 @@ fn kept_of(plans: &PlanSet<Entry>, others: &mut PlanSet<Entry>) -> Result<usize,
     Ok(count)
 }
 
-/// How many of the set's members a new set keeps, how many of them once more, and the costs of what it has then.
+/// How many of the set's members a new set keeps, how many of them once more, and the costs of what
+/// it has then.
 pub fn told_offers(alloc: Global, rules: &CheckedRules, query: &Query) -> Result<String, AllocError>
     requires { WellFormedQuery query.now }
 {

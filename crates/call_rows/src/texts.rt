@@ -12,7 +12,8 @@ use star_model::rules::RuleFile;
 use star_syntax::read_rules;
 use std::alloc::{AllocError, Global};
 
-// No row has a text that is refused. So what stops one is want of memory, and all faults are told as this.
+// No row has a text that is refused. So what stops one is want of memory, and all faults are told
+// as this.
 
 // The greatest length of a text in bytes.
 const LONGEST: usize = 1_048_576;

@@ -1,5 +1,6 @@
 -- Which limits a statement of a catalogue goes beyond, behind those before it.
 use Rattle.std.specs.Prelude.{ℕ, ◌<◌, ◌≤◌, List, length, IsUtf8}
+use Rattle.star_model.specs.Limits.{most_columns, most_file_bytes, most_index_columns, most_indexes, most_sites, most_tables}
 use Rattle.star_model.specs.declared.faults.LimitKind.{LimitKind}
 use Rattle.star_model.specs.declared.faults.LimitKind.TheVariants as limit
 use Rattle.spelling.specs.Limits.{HasGreatNumber, HasLongWord, IsFirstBeyond}
@@ -9,7 +10,7 @@ use Rattle.catalogue.specs.Defined.{sites_in, tables_in, indexes_in}
 -- a name that a file may have: 1 to 255 bytes of UTF-8
 pub record IsFileName (name : List ℕ) : Type 0 where
   pub some : 0 < length name
-  pub few : length name ≤ 255
+  pub few : length name ≤ most_file_bytes
   pub utf8 : IsUtf8 name
 
 -- A number is over the greatest, a name over 64 bytes, a file has no name that it may have; this is the ninth site or a later one,
@@ -18,11 +19,11 @@ abbrev pub Beyond : List CatalogueStatement → CatalogueStatement → LimitKind
 Beyond earlier statement limit.Number = HasGreatNumber (catalogue_lexemes statement)
 Beyond earlier statement limit.Name = HasLongWord (catalogue_lexemes statement)
 Beyond earlier (Table t) limit.File = IsFileName t.file → ⊥
-Beyond earlier (Site s) limit.Sites = 8 ≤ length (sites_in earlier)
-Beyond earlier (Table t) limit.Tables = 32 ≤ length (tables_in earlier)
-Beyond earlier (Table t) limit.Columns = 32 < length t.columns
-Beyond earlier (Index i) limit.Indexes = 64 ≤ length (indexes_in earlier)
-Beyond earlier (Index i) limit.IndexColumns = 8 < length i.columns
+Beyond earlier (Site s) limit.Sites = most_sites ≤ length (sites_in earlier)
+Beyond earlier (Table t) limit.Tables = most_tables ≤ length (tables_in earlier)
+Beyond earlier (Table t) limit.Columns = most_columns < length t.columns
+Beyond earlier (Index i) limit.Indexes = most_indexes ≤ length (indexes_in earlier)
+Beyond earlier (Index i) limit.IndexColumns = most_index_columns < length i.columns
 Beyond earlier statement _ = ⊥
 
 -- the first limit that it goes beyond is this one

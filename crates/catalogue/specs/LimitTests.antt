@@ -2,6 +2,7 @@
 use Rattle.std.specs.Prelude.{◌≡◌, ℕ, Bool, ◌||◌, ◌&&◌, not, nat_lt, nat_le, List, length, Option, Some, None, if◌then◌else◌}
 use Rattle.std.specs.List.{list_any}
 use Rattle.std.specs.Str.{is_utf8}
+use Rattle.star_model.specs.Limits.{most_columns, most_file_bytes, most_index_columns, most_indexes, most_name_bytes, most_sites, most_tables}
 use Rattle.star_model.specs.Numbers.{top}
 use Rattle.star_model.specs.declared.faults.LimitKind.{LimitKind}
 use Rattle.star_model.specs.declared.faults.LimitKind.TheVariants as limit
@@ -22,7 +23,7 @@ has_great_number (Table t) = is_great t.rows || is_great t.pages || list_any is_
 has_great_number (Index i) = is_great i.pages
 
 abbrev pub is_long : List ℕ → Bool
-is_long name = nat_lt 64 (length name)
+is_long name = nat_lt most_name_bytes (length name)
 
 abbrev pub is_long_column : ColumnDef → Bool
 is_long_column c = is_long c.name
@@ -33,18 +34,18 @@ has_long_name (Table t) = is_long t.name || is_long t.site || list_any is_long_c
 has_long_name (Index i) = is_long i.name || is_long i.table || list_any is_long i.columns
 
 abbrev pub is_file_name : List ℕ → Bool
-is_file_name name = nat_lt 0 (length name) && nat_le (length name) 255 && is_utf8 name
+is_file_name name = nat_lt 0 (length name) && nat_le (length name) most_file_bytes && is_utf8 name
 
 -- the first limit, of those that only such a statement has
 abbrev pub kind_limit : Counts → CatalogueStatement → Option LimitKind
-kind_limit before (Site s) = if nat_le 8 before.sites then Some limit.Sites else None
+kind_limit before (Site s) = if nat_le most_sites before.sites then Some limit.Sites else None
 kind_limit before (Table t) =
     if not (is_file_name t.file) then Some limit.File
-    else if nat_le 32 before.tables then Some limit.Tables
-    else if nat_lt 32 (length t.columns) then Some limit.Columns
+    else if nat_le most_tables before.tables then Some limit.Tables
+    else if nat_lt most_columns (length t.columns) then Some limit.Columns
     else None
 kind_limit before (Index i) =
-    if nat_le 64 before.indexes then Some limit.Indexes else if nat_lt 8 (length i.columns) then Some limit.IndexColumns else None
+    if nat_le most_indexes before.indexes then Some limit.Indexes else if nat_lt most_index_columns (length i.columns) then Some limit.IndexColumns else None
 
 -- the first limit that the statement goes beyond
 abbrev pub limit_beyond : Counts → CatalogueStatement → Option LimitKind

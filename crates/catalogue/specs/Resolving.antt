@@ -1,5 +1,6 @@
 -- When a statement can be added to a catalogue.
 use Rattle.std.specs.Prelude.{◌≡◌, ◌≤◌, false, IsSome, List, length, map, slice_get, Option, Some}
+use Rattle.star_model.specs.Limits.{most_columns, most_index_columns, most_sites, most_tables}
 use Rattle.star_model.specs.declared.catalogue.Catalogue.{Catalogue}
 use Rattle.star_model.specs.declared.catalogue.TableDef.{TableDef}
 use Rattle.star_model.specs.declared.catalogue.IndexDef.{IndexDef}
@@ -10,18 +11,18 @@ use Rattle.catalogue.specs.Catalogues.{CatalogueStatement, Site, Table, Index, I
 use Rattle.catalogue.specs.LimitTests.{has_great_number}
 
 abbrev pub IsNarrow : TableDef → Type 0
-IsNarrow t = length t.columns ≤ 32
+IsNarrow t = length t.columns ≤ most_columns
 
 -- its places are few
 pub record IsSmall (c : Catalogue) : Type 0 where
-  pub sites : length c.sites ≤ 8
-  pub tables : length c.tables ≤ 32
+  pub sites : length c.sites ≤ most_sites
+  pub tables : length c.tables ≤ most_tables
   pub columns : Every IsNarrow c.tables
 
 abbrev pub HasFewColumns : CatalogueStatement → Type 0
 HasFewColumns (Site s) = Unit {0}
-HasFewColumns (Table t) = length t.columns ≤ 32
-HasFewColumns (Index i) = length i.columns ≤ 8
+HasFewColumns (Table t) = length t.columns ≤ most_columns
+HasFewColumns (Index i) = length i.columns ≤ most_index_columns
 
 -- it names what is defined, and its numbers and counts are within their limits
 pub record CanBeAdded (c : Catalogue) (x : CatalogueStatement) : Type 0 where

@@ -8,8 +8,8 @@ use sb_text::TextFault;
 use star_model::faults::LimitKind;
 use std::alloc::AllocError;
 
-/// Why a catalogue text is refused: the first of these, in this order, over the whole text. A number alone is the first statement
-/// that has the fault, from 1.
+/// Why a catalogue text is refused: the first of these, in this order, over the whole text. A
+/// number alone is the first statement that has the fault, from 1.
 #[derive(Clone, Copy, Debug, PartialEq, Eq)]
 pub enum CatFault {
     /// No token begins at this byte, counted from 0.

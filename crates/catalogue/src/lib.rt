@@ -1,4 +1,5 @@
-//! Catalogue texts: what their statements say, which fault is the first, the catalogue that they mean, and how one is printed.
+//! Catalogue texts: what their statements say, which fault is the first, the catalogue that they
+//! mean, and how one is printed.
 #![tactic(auto)]
 
 pub mod fault;

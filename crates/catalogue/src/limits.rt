@@ -41,7 +41,8 @@ impl Counts {
     // The counts with what the statement defines.
     fn with(self, statement: &StatementWords) -> Counts
         requires { self.sites + self.tables + self.indexes < 2 ^ 32 }
-        ensures { (earlier : Seq CatalogueStatement) → Counted self earlier → Counted result (earlier ++ said statement.now ∷ []) }
+        ensures { (earlier : Seq CatalogueStatement) → Counted self earlier
+            → Counted result (earlier ++ said statement.now ∷ []) }
     {
         match statement {
             StatementWords::Site(_) => Counts {
@@ -189,10 +190,12 @@ fn limit_beyond(before: Counts, statement: &StatementWords) -> Option<LimitKind>
     }
 }
 
-/// The number of the first statement that goes beyond a limit, with the first limit that it goes beyond, where there is one.
+/// The number of the first statement that goes beyond a limit, with the first limit that it goes
+/// beyond, where there is one.
 pub fn first_limit(statements: &[StatementWords]) -> Option<(u32, LimitKind)>
     requires { length statements.now < 2 ^ 32 }
-    ensures { MatchOption result (NoneHas IsBeyond (map said statements.now)) (λ found. IsLimitAt (map said statements.now) found.0 found.1) }
+    ensures { MatchOption result (NoneHas IsBeyond (map said statements.now))
+        (λ found. IsLimitAt (map said statements.now) found.0 found.1) }
 {
     let mut before = Counts {
         sites: 0,

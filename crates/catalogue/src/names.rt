@@ -44,7 +44,8 @@ impl<'a> Known<'a> {
 
     // Whether the statement names what isn't known.
     fn lacks_a_name_of(&self, statement: &StatementWords) -> bool
-        ensures { (earlier : Seq CatalogueStatement) → Knows self.now earlier → result ≡ names_unknown earlier (said statement.now) }
+        ensures { (earlier : Seq CatalogueStatement) → Knows self.now earlier
+            → result ≡ names_unknown earlier (said statement.now) }
     {
         match statement {
             StatementWords::Site(_) => false,
@@ -61,7 +62,8 @@ impl<'a> Known<'a> {
         table: &'a [u8],
         columns: &'a [ColumnWords],
     ) -> Result<(), AllocError>
-        ensures { OnOk result (self.new ≡ record self.old { columns = with_columns self.old.columns table.now columns.now }) }
+        ensures { OnOk result (self.new ≡ record self.old
+            { columns = with_columns self.old.columns table.now columns.now }) }
     {
         for column in columns {
             self.columns.insert(table, column.name.as_slice())?;
@@ -70,7 +72,8 @@ impl<'a> Known<'a> {
     }
 
     fn define(&mut self, statement: &'a StatementWords) -> Result<(), AllocError>
-        ensures { OnOk result ((earlier : Seq CatalogueStatement) → Knows self.old earlier → Knows self.new (earlier ++ said statement.now ∷ [])) }
+        ensures { OnOk result ((earlier : Seq CatalogueStatement) → Knows self.old earlier
+            → Knows self.new (earlier ++ said statement.now ∷ [])) }
     {
         match statement {
             StatementWords::Site(site) => {
@@ -92,7 +95,9 @@ pub fn first_unknown(
     statements: &[StatementWords],
 ) -> Result<Option<u32>, AllocError>
     requires { length statements.now < 2 ^ 32 }
-    ensures { IfOk result (λ found. MatchOption found (NoneHas NamesUnknown (map said statements.now)) (FirstAt NamesUnknown (map said statements.now))) }
+    ensures { IfOk result (λ found. MatchOption found
+        (NoneHas NamesUnknown (map said statements.now))
+        (FirstAt NamesUnknown (map said statements.now))) }
 {
     let mut known = Known::new(alloc);
     for (place, statement) in statements.iter().enumerate() {
@@ -166,8 +171,10 @@ impl<'a> Defined<'a> {
 
     // Adds the name that the statement defines, and answers whether it is new.
     fn define(&mut self, statement: &'a StatementWords) -> Result<bool, AllocError>
-        ensures new { IfOk result (λ new. (earlier : Seq CatalogueStatement) → Defines self.old earlier → new ≡ not (is_defined earlier (said statement.now))) }
-        ensures defined { OnOk result ((earlier : Seq CatalogueStatement) → Defines self.old earlier → Defines self.new (earlier ++ said statement.now ∷ [])) }
+        ensures new { IfOk result (λ new. (earlier : Seq CatalogueStatement)
+            → Defines self.old earlier → new ≡ not (is_defined earlier (said statement.now))) }
+        ensures defined { OnOk result ((earlier : Seq CatalogueStatement) → Defines self.old earlier
+            → Defines self.new (earlier ++ said statement.now ∷ [])) }
     {
         let new = match statement {
             StatementWords::Site(site) => self.sites.insert(site.name.as_slice())?,
@@ -177,14 +184,18 @@ impl<'a> Defined<'a> {
         Ok(new)
     }
 
-    // Adds the name that the statement defines, and answers whether it was there, or the statement has a column twice.
+    // Adds the name that the statement defines, and answers whether it was there, or the statement
+    // has a column twice.
     fn has_twice(
         &mut self,
         alloc: Global,
         statement: &'a StatementWords,
     ) -> Result<bool, AllocError>
-        ensures twice { IfOk result (λ twice. (earlier : Seq CatalogueStatement) → Defines self.old earlier → twice ≡ (is_defined earlier (said statement.now) || has_column_twice (said statement.now))) }
-        ensures defined { OnOk result ((earlier : Seq CatalogueStatement) → Defines self.old earlier → Defines self.new (earlier ++ said statement.now ∷ [])) }
+        ensures twice { IfOk result (λ twice. (earlier : Seq CatalogueStatement)
+            → Defines self.old earlier → twice
+            ≡ (is_defined earlier (said statement.now) || has_column_twice (said statement.now))) }
+        ensures defined { OnOk result ((earlier : Seq CatalogueStatement) → Defines self.old earlier
+            → Defines self.new (earlier ++ said statement.now ∷ [])) }
     {
         let new = self.define(statement)?;
         let again = has_column_twice(alloc, statement)?;
@@ -192,10 +203,13 @@ impl<'a> Defined<'a> {
     }
 }
 
-/// The number of the first statement that defines what an earlier one defines, or that has a column twice, where there is one.
+/// The number of the first statement that defines what an earlier one defines, or that has a column
+/// twice, where there is one.
 pub fn first_twice(alloc: Global, statements: &[StatementWords]) -> Result<Option<u32>, AllocError>
     requires { length statements.now < 2 ^ 32 }
-    ensures { IfOk result (λ found. MatchOption found (NoneHas DefinesTwice (map said statements.now)) (FirstAt DefinesTwice (map said statements.now))) }
+    ensures { IfOk result (λ found. MatchOption found
+        (NoneHas DefinesTwice (map said statements.now))
+        (FirstAt DefinesTwice (map said statements.now))) }
 {
     let mut defined = Defined::new(alloc);
     for (place, statement) in statements.iter().enumerate() {

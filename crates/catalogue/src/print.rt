@@ -14,7 +14,8 @@ use std::alloc::{AllocError, Global};
 
 #[tactic(auto, using(spelling::proofs::Laws::writing))]
 fn print_site(out: &mut Writer, site: &SiteDef) -> Result<(), AllocError>
-    ensures { OnOk result (out.new ≡ ended (puts out.old (catalogue_lexemes (statement.Site site.now)))) }
+    ensures { OnOk result (out.new ≡ ended (puts out.old
+        (catalogue_lexemes (statement.Site site.now)))) }
 {
     out.word(b"site")?;
     out.word(site.name.as_slice())?;
@@ -48,7 +49,8 @@ fn print_column(out: &mut Writer, column: &ColumnDef) -> Result<(), AllocError>
 
 // The columns, with a comma between two.
 fn print_column_list(out: &mut Writer, columns: &[ColumnDef]) -> Result<(), AllocError>
-    ensures { OnOk result (out.new ≡ puts out.old (joined_by comma (map column_lexemes columns.now))) }
+    ensures { OnOk result (out.new ≡ puts out.old
+        (joined_by comma (map column_lexemes columns.now))) }
 {
     let [first, later @ ..] = columns else {
         return Ok(());
@@ -64,7 +66,8 @@ fn print_column_list(out: &mut Writer, columns: &[ColumnDef]) -> Result<(), Allo
 // The columns between brackets.
 #[tactic(auto, using(spelling::proofs::Laws::writing))]
 fn print_columns(out: &mut Writer, columns: &[ColumnDef]) -> Result<(), AllocError>
-    ensures { OnOk result (out.new ≡ puts out.old (bracketed (joined_by comma (map column_lexemes columns.now)))) }
+    ensures { OnOk result (out.new ≡ puts out.old
+        (bracketed (joined_by comma (map column_lexemes columns.now)))) }
 {
     out.symbol(b"(")?;
     print_column_list(out, columns)?;
@@ -81,7 +84,8 @@ fn site_name(catalogue: &Catalogue, site: Site) -> &[u8]
 #[tactic(auto, unfolding(spelling::specs::Writing::puts))]
 fn print_table(out: &mut Writer, catalogue: &Catalogue, table: &TableDef) -> Result<(), AllocError>
     requires { WellFormedTable (length catalogue.now.sites) table.now }
-    ensures { OnOk result (out.new ≡ ended (puts out.old (catalogue_lexemes (table_statement catalogue.now table.now)))) }
+    ensures { OnOk result (out.new ≡ ended (puts out.old
+        (catalogue_lexemes (table_statement catalogue.now table.now)))) }
 {
     out.word(b"table")?;
     out.word(table.name.as_slice())?;
@@ -107,7 +111,8 @@ fn column_name(table: &TableDef, column: u8) -> &[u8]
 // The names of columns of the table, with a comma between two.
 fn print_name_list(out: &mut Writer, table: &TableDef, columns: &[u8]) -> Result<(), AllocError>
     requires { list_all (λ c. nat_lt c (length table.now.columns)) columns.now ≡ true }
-    ensures { OnOk result (out.new ≡ puts out.old (joined_by comma (map name_lexemes (map (name_at (column_names table.now)) columns.now)))) }
+    ensures { OnOk result (out.new ≡ puts out.old
+        (joined_by comma (map name_lexemes (map (name_at (column_names table.now)) columns.now)))) }
 {
     let [first, later @ ..] = columns else {
         return Ok(());
@@ -124,7 +129,9 @@ fn print_name_list(out: &mut Writer, table: &TableDef, columns: &[u8]) -> Result
 #[tactic(auto, using(spelling::proofs::Laws::writing))]
 fn print_column_names(out: &mut Writer, table: &TableDef, columns: &[u8]) -> Result<(), AllocError>
     requires { list_all (λ c. nat_lt c (length table.now.columns)) columns.now ≡ true }
-    ensures { OnOk result (out.new ≡ puts out.old (bracketed (joined_by comma (map name_lexemes (map (name_at (column_names table.now)) columns.now))))) }
+    ensures { OnOk result (out.new ≡ puts out.old
+        (bracketed (joined_by comma (map name_lexemes
+        (map (name_at (column_names table.now)) columns.now))))) }
 {
     out.symbol(b"(")?;
     print_name_list(out, table, columns)?;
@@ -141,7 +148,8 @@ fn table_at(catalogue: &Catalogue, table: u8) -> &TableDef
 #[tactic(auto, using(spelling::proofs::Laws::writing))]
 fn print_index(out: &mut Writer, catalogue: &Catalogue, index: &IndexDef) -> Result<(), AllocError>
     requires { WellFormedIndex catalogue.now.tables index.now }
-    ensures { OnOk result (out.new ≡ ended (puts out.old (catalogue_lexemes (index_statement catalogue.now index.now)))) }
+    ensures { OnOk result (out.new ≡ ended (puts out.old
+        (catalogue_lexemes (index_statement catalogue.now index.now)))) }
 {
     let table = table_at(catalogue, index.table);
     out.word(b"index")?;
@@ -155,7 +163,8 @@ fn print_index(out: &mut Writer, catalogue: &Catalogue, index: &IndexDef) -> Res
 }
 
 fn print_sites(out: &mut Writer, sites: &[SiteDef]) -> Result<(), AllocError>
-    ensures { OnOk result (out.new ≡ lines out.old (map catalogue_lexemes (map statement.Site sites.now))) }
+    ensures { OnOk result (out.new ≡ lines out.old
+        (map catalogue_lexemes (map statement.Site sites.now))) }
 {
     for site in sites {
         print_site(out, site)?;
@@ -165,7 +174,8 @@ fn print_sites(out: &mut Writer, sites: &[SiteDef]) -> Result<(), AllocError>
 
 fn print_tables(out: &mut Writer, catalogue: &Catalogue) -> Result<(), AllocError>
     requires { WellFormedCatalogue catalogue.now }
-    ensures { OnOk result (out.new ≡ lines out.old (map catalogue_lexemes (map (table_statement catalogue.now) catalogue.now.tables))) }
+    ensures { OnOk result (out.new ≡ lines out.old
+        (map catalogue_lexemes (map (table_statement catalogue.now) catalogue.now.tables))) }
 {
     for table in catalogue.tables.as_slice() {
         print_table(out, catalogue, table)?;
@@ -175,7 +185,8 @@ fn print_tables(out: &mut Writer, catalogue: &Catalogue) -> Result<(), AllocErro
 
 fn print_indexes(out: &mut Writer, catalogue: &Catalogue) -> Result<(), AllocError>
     requires { WellFormedCatalogue catalogue.now }
-    ensures { OnOk result (out.new ≡ lines out.old (map catalogue_lexemes (map (index_statement catalogue.now) catalogue.now.indexes))) }
+    ensures { OnOk result (out.new ≡ lines out.old
+        (map catalogue_lexemes (map (index_statement catalogue.now) catalogue.now.indexes))) }
 {
     for index in catalogue.indexes.as_slice() {
         print_index(out, catalogue, index)?;
@@ -183,8 +194,8 @@ fn print_indexes(out: &mut Writer, catalogue: &Catalogue) -> Result<(), AllocErr
     Ok(())
 }
 
-/// The text that spells the catalogue, in canonical layout: its sites, then its tables, then its indexes, each in order and each on
-/// a line of its own.
+/// The text that spells the catalogue, in canonical layout: its sites, then its tables, then its
+/// indexes, each in order and each on a line of its own.
 pub fn print_catalogue(alloc: Global, catalogue: &Catalogue) -> Result<Vec<u8>, AllocError>
     requires { WellFormedCatalogue catalogue.now }
     ensures { IfOk result (λ text. text.items ≡ canonical catalogue.now) }

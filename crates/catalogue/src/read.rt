@@ -1,5 +1,6 @@
 // Reading a catalogue.
 ghost use Rattle.std.specs.Prelude.{◌≤◌, ◌<◌, ◌^◌, length, map};
+ghost use Rattle.sb_text.specs.Limits.{most_text_bytes};
 ghost use Rattle.catalogue.specs.Words.{said};
 ghost use Rattle.catalogue.specs.Faults.{ReadsCatalogue};
 ghost use Rattle.catalogue.specs.Judged.{StatementsJudged};
@@ -31,10 +32,10 @@ fn judge(alloc: Global, statements: &[StatementWords]) -> Result<(), CatFault>
     }
 }
 
-/// The catalogue that a text spells, or why it is refused. Each kind of fault is judged over the whole text before the next, and
-/// within a kind the first statement is told.
+/// The catalogue that a text spells, or why it is refused. Each kind of fault is judged over the
+/// whole text before the next, and within a kind the first statement is told.
 pub fn read_catalogue(alloc: Global, source: &[u8]) -> Result<Catalogue, CatFault>
-    requires { length source.now ≤ 1048576 }
+    requires { length source.now ≤ most_text_bytes }
     ensures { ReadsCatalogue source.now result }
 {
     let tokens = tokens(alloc, source)?;

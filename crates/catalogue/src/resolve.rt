@@ -2,6 +2,7 @@
 ghost use Rattle.std.specs.Prelude.{◌≡◌, ◌≤◌, ◌<◌, false, length, map, position, Some, IsSome, OnOk, IfOk};
 ghost use Rattle.star_model.specs.Vectors.{same_numbers};
 ghost use Rattle.std.specs.List.{list_any};
+ghost use Rattle.star_model.specs.Limits.{most_columns, most_index_columns, most_sites, most_tables};
 ghost use Rattle.star_model.specs.Names.{place_of};
 ghost use Rattle.spelling.specs.Names.{all_of};
 ghost use Rattle.catalogue.specs.Catalogues.{Site as SiteStatement, Table, Index, table_from, with_statement, catalogue_of};
@@ -92,7 +93,7 @@ fn place_of_column(columns: &[ColumnDef], name: &[u8]) -> Option<usize>
 // The site of this name, which is defined.
 fn site_named(sites: &[SiteDef], name: &[u8]) -> Site
     requires known { IsSome (place_of name.now (map (λ s. s.name) sites.now)) }
-    requires few { length sites.now ≤ 8 }
+    requires few { length sites.now ≤ most_sites }
     ensures { place_of name.now (map (λ s. s.name) sites.now) ≡ Some result.0 }
 {
     match place_of_site(sites, name) {
@@ -104,7 +105,7 @@ fn site_named(sites: &[SiteDef], name: &[u8]) -> Site
 // The position of the table of this name, which is defined.
 fn table_named(tables: &[TableDef], name: &[u8]) -> u8
     requires known { IsSome (place_of name.now (map (λ t. t.name) tables.now)) }
-    requires few { length tables.now ≤ 32 }
+    requires few { length tables.now ≤ most_tables }
     ensures { place_of name.now (map (λ t. t.name) tables.now) ≡ Some result }
 {
     match place_of_table(tables, name) {
@@ -116,7 +117,7 @@ fn table_named(tables: &[TableDef], name: &[u8]) -> u8
 // The position of the column of this name, which is defined.
 fn column_named(columns: &[ColumnDef], name: &[u8]) -> u8
     requires known { IsSome (place_of name.now (map (λ d. d.name) columns.now)) }
-    requires few { length columns.now ≤ 32 }
+    requires few { length columns.now ≤ most_columns }
     ensures { place_of name.now (map (λ d. d.name) columns.now) ≡ Some result }
 {
     match place_of_column(columns, name) {
@@ -127,10 +128,12 @@ fn column_named(columns: &[ColumnDef], name: &[u8]) -> u8
 
 // The positions of the columns of these names, which are defined.
 fn columns_named(columns: &[ColumnDef], names: &[Name]) -> IndexColumns
-    requires known { IsSome (all_of (map (λ name. place_of name (map (λ d. d.name) columns.now)) names.now)) }
-    requires few { length columns.now ≤ 32 }
-    requires fit { length names.now ≤ 8 }
-    ensures { all_of (map (λ name. place_of name (map (λ d. d.name) columns.now)) names.now) ≡ Some result }
+    requires known { IsSome (all_of (map (λ name. place_of name (map (λ d. d.name) columns.now))
+        names.now)) }
+    requires few { length columns.now ≤ most_columns }
+    requires fit { length names.now ≤ most_index_columns }
+    ensures { all_of (map (λ name. place_of name (map (λ d. d.name) columns.now)) names.now)
+        ≡ Some result }
 {
     let mut places = IndexColumns::new();
     for name in names {
@@ -146,9 +149,9 @@ fn columns_named(columns: &[ColumnDef], names: &[Name]) -> IndexColumns
 // The index with the positions of its table and of its columns, which are defined.
 fn index_def(alloc: Global, tables: &[TableDef], index: &IndexWords) -> Result<IndexDef, AllocError>
     requires known { IsSome (resolved_index tables.now (index_of index.now)) }
-    requires few { length tables.now ≤ 32 }
+    requires few { length tables.now ≤ most_tables }
     requires narrow { Every IsNarrow tables.now }
-    requires fit { length index.now.columns ≤ 8 }
+    requires fit { length index.now.columns ≤ most_index_columns }
     requires small { has_great_number (Index (index_of index.now)) ≡ false }
     ensures { IfOk result (λ def. resolved_index tables.now (index_of index.now) ≡ Some def) }
 {

@@ -1,5 +1,6 @@
 // Reading all statements of a text.
 ghost use Rattle.std.specs.Prelude.{◌≤◌, length};
+ghost use Rattle.sb_text.specs.Limits.{most_text_bytes};
 ghost use Rattle.sb_text.specs.Refusal.{AreTokens};
 ghost use Rattle.catalogue.specs.Statements.{StatementsRead};
 
@@ -11,14 +12,14 @@ use spelling::Unread;
 use star_model::lists::List;
 use std::alloc::Global;
 
-/// What the statements of a text say, one after the other, from its tokens. The answer is a fault of the kind `Syntax` or `Memory`
-/// otherwise.
+/// What the statements of a text say, one after the other, from its tokens. The answer is a fault
+/// of the kind `Syntax` or `Memory` otherwise.
 pub fn read_statements(
     alloc: Global,
     source: &[u8],
     tokens: &[Token],
 ) -> Result<List<StatementWords>, CatFault>
-    requires size { length source.now ≤ 1048576 }
+    requires size { length source.now ≤ most_text_bytes }
     requires tokens { AreTokens source.now tokens.now }
     ensures { StatementsRead source.now result }
 {

@@ -1,4 +1,5 @@
-// What the statements of a catalogue text say: names as they are written, and numbers of any size that a token has.
+// What the statements of a catalogue text say: names as they are written, and numbers of any size
+// that a token has.
 
 ghost use Rattle.std.specs.Prelude.{◌≡◌, ◌+◌, ◌<◌, ◌^◌};
 

@@ -70,8 +70,8 @@ fn shelf_of(alloc: Global, texts: Texts<'_>, call: u32) -> Result<MemoryShelf, A
     })
 }
 
-// The second sink.
-fn line_sink(alloc: Global, kept: Option<usize>) -> Result<MemorySink, AllocError> {
+/// The second sink, which fails where it keeps some bytes alone.
+pub fn line_sink(alloc: Global, kept: Option<usize>) -> Result<MemorySink, AllocError> {
     let mut failing = Vec::new(alloc);
     if let Some(kept) = kept {
         failing.push((1, kept))?;

@@ -1,4 +1,5 @@
-//! Formulas of costs and of selectivities: which text spells one, how it is read and printed; and, from `formula_value`, what it comes to.
+//! Formulas of costs and of selectivities: which text spells one, how it is read and printed; and,
+//! from `formula_value`, what it comes to.
 #![tactic(auto)]
 
 mod cursor;

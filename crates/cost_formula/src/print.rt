@@ -111,7 +111,9 @@ fn write_infix(
     sign: &[u8],
     right: (&Formula, Rank),
 ) -> Result<(), AllocError>
-    ensures { OnOk result (out.new ≡ puts out.old (operand_lexemes (rule_of left.entry.1) left.entry.0.now ++ Symbol sign.now ∷ operand_lexemes (rule_of right.entry.1) right.entry.0.now)) }
+    ensures { OnOk result (out.new ≡ puts out.old
+        (operand_lexemes (rule_of left.entry.1) left.entry.0.now ++ Symbol sign.now
+        ∷ operand_lexemes (rule_of right.entry.1) right.entry.0.now)) }
 {
     write_operand(out, left.0, left.1)?;
     out.symbol(sign)?;
@@ -122,7 +124,8 @@ fn write_infix(
 #[cycle(print)]
 #[tactic(auto, using(crate::proofs::Printed::parts, star_model::specs::NodeCounts::node_counts))]
 fn write_call(out: &mut Writer, function: &[u8], a: &Formula, b: &Formula) -> Result<(), AllocError>
-    ensures { OnOk result (out.new ≡ puts out.old (Word function.now ∷ bracketed (formula_lexemes a.now ++ comma ∷ formula_lexemes b.now))) }
+    ensures { OnOk result (out.new ≡ puts out.old
+        (Word function.now ∷ bracketed (formula_lexemes a.now ++ comma ∷ formula_lexemes b.now))) }
 {
     out.word(function)?;
     out.symbol(b"(")?;
@@ -132,8 +135,8 @@ fn write_call(out: &mut Writer, function: &[u8], a: &Formula, b: &Formula) -> Re
     out.symbol(b")")
 }
 
-/// Writes a formula within a statement, with the fewest brackets. Where it answers an error, memory was wanting, and the text is of
-/// no use.
+/// Writes a formula within a statement, with the fewest brackets. Where it answers an error, memory
+/// was wanting, and the text is of no use.
 ///
 /// The recursion goes as deep as the formula nests.
 #[cycle(print)]

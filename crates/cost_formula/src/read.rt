@@ -18,7 +18,8 @@ use sb_text::Token;
 use star_model::formula::Formula;
 use std::alloc::{AllocError, Global};
 
-// The formula at the front of the words, where at most `depth` formulas are open inside one another.
+// The formula at the front of the words, where at most `depth` formulas are open inside one
+// another.
 fn whole(alloc: Global, words: &mut WordCursor<'_>, depth: usize) -> Result<Formula, Stop>
     ensures { Reads (whole_at depth words.old.left.now) result words.new.left.now }
 {
@@ -66,8 +67,11 @@ fn read_over(
     source: &[u8],
 ) -> Result<Option<Formula>, AllocError>
     requires { AreTokensOf source.now tokens.now }
-    ensures some { IfOk result (λ o. IfSome o (λ f. SpellsIn (variables_of vocabulary) (lexemes_of source.now tokens.now) f)) }
-    ensures none { IfOk result (λ o. IfNone o ((f : Formula) → SpellsIn (variables_of vocabulary) (lexemes_of source.now tokens.now) f → ⊥)) }
+    ensures some { IfOk result (λ o. IfSome o
+        (λ f. SpellsIn (variables_of vocabulary) (lexemes_of source.now tokens.now) f)) }
+    ensures none { IfOk result (λ o. IfNone o
+        ((f : Formula) → SpellsIn (variables_of vocabulary) (lexemes_of source.now tokens.now) f
+        → ⊥)) }
 {
     let words = words_of(alloc, vocabulary, source, tokens)?;
     read_words(alloc, words.as_slice())
@@ -75,29 +79,35 @@ fn read_over(
 
 /// The cost formula that these tokens of the source spell, or `None` where they spell none.
 ///
-/// What stands in brackets and the branches of an `if` are read by recursion. The tokens of one statement that `sb_text::tokens`
-/// gave nest brackets at most 32 deep, and they are at most 4,096, in which at most 585 `if` stand inside one another.
+/// What stands in brackets and the branches of an `if` are read by recursion. The tokens of one
+/// statement that `sb_text::tokens` gave nest brackets at most 32 deep, and they are at most 4,096,
+/// in which at most 585 `if` stand inside one another.
 pub fn read_formula(
     alloc: Global,
     tokens: &[Token],
     source: &[u8],
 ) -> Result<Option<Formula>, AllocError>
     requires { AreTokensOf source.now tokens.now }
-    ensures some { IfOk result (λ o. IfSome o (λ f. SpellsFormula (lexemes_of source.now tokens.now) f)) }
-    ensures none { IfOk result (λ o. IfNone o ((f : Formula) → SpellsFormula (lexemes_of source.now tokens.now) f → ⊥)) }
+    ensures some { IfOk result (λ o. IfSome o
+        (λ f. SpellsFormula (lexemes_of source.now tokens.now) f)) }
+    ensures none { IfOk result (λ o. IfNone o
+        ((f : Formula) → SpellsFormula (lexemes_of source.now tokens.now) f → ⊥)) }
 {
     read_over(alloc, Vocabulary::Cost, tokens, source)
 }
 
-/// The formula of a selectivity that these tokens of the source spell, or `None` where they spell none. It is read as a cost formula is.
+/// The formula of a selectivity that these tokens of the source spell, or `None` where they spell
+/// none. It is read as a cost formula is.
 pub fn read_select(
     alloc: Global,
     tokens: &[Token],
     source: &[u8],
 ) -> Result<Option<Formula>, AllocError>
     requires { AreTokensOf source.now tokens.now }
-    ensures some { IfOk result (λ o. IfSome o (λ f. SpellsSelect (lexemes_of source.now tokens.now) f)) }
-    ensures none { IfOk result (λ o. IfNone o ((f : Formula) → SpellsSelect (lexemes_of source.now tokens.now) f → ⊥)) }
+    ensures some { IfOk result (λ o. IfSome o
+        (λ f. SpellsSelect (lexemes_of source.now tokens.now) f)) }
+    ensures none { IfOk result (λ o. IfNone o
+        ((f : Formula) → SpellsSelect (lexemes_of source.now tokens.now) f → ⊥)) }
 {
     read_over(alloc, Vocabulary::Selectivity, tokens, source)
 }

@@ -10,7 +10,8 @@ use crate::nodes::{chosen, greater, join, lesser};
 use star_model::formula::{Formula, Test};
 use std::alloc::{AllocError, Global};
 
-/// The rules take the reader of the formulas inside a formula as a parameter, so that each is proved by itself.
+/// The rules take the reader of the formulas inside a formula as a parameter, so that each is
+/// proved by itself.
 #[derive(Clone, Copy)]
 pub struct Rules<F> {
     pub alloc: Global,
@@ -30,7 +31,8 @@ impl<F: Fn(Global, &mut WordCursor<'_>, usize) -> Result<Formula, Stop>> Rules<F
     #[tactic(auto, unfolding(crate::specs::FormulaReading::pair_at))]
     fn pair(&self, words: &mut WordCursor<'_>) -> Result<(Formula, Formula), Stop>
         requires { Nests self.now.depth (F.pre self.now.inner) (F.post self.now.inner) }
-        ensures { Reads (pair_at (whole_at self.now.depth) words.old.left.now) result words.new.left.now }
+        ensures { Reads (pair_at (whole_at self.now.depth) words.old.left.now) result
+            words.new.left.now }
     {
         words.open()?;
         let x = self.inner(words)?;
@@ -43,7 +45,8 @@ impl<F: Fn(Global, &mut WordCursor<'_>, usize) -> Result<Formula, Stop>> Rules<F
     #[tactic(auto, unfolding(crate::specs::FormulaReading::bracketed_at))]
     fn bracketed(&self, words: &mut WordCursor<'_>) -> Result<Formula, Stop>
         requires { Nests self.now.depth (F.pre self.now.inner) (F.post self.now.inner) }
-        ensures { Reads (bracketed_at (whole_at self.now.depth) words.old.left.now) result words.new.left.now }
+        ensures { Reads (bracketed_at (whole_at self.now.depth) words.old.left.now) result
+            words.new.left.now }
     {
         let x = self.inner(words)?;
         words.close()?;
@@ -53,7 +56,8 @@ impl<F: Fn(Global, &mut WordCursor<'_>, usize) -> Result<Formula, Stop>> Rules<F
     #[tactic(auto, unfolding(crate::specs::FormulaReading::factor_at))]
     fn factor(&self, words: &mut WordCursor<'_>) -> Result<Formula, Stop>
         requires { Nests self.now.depth (F.pre self.now.inner) (F.post self.now.inner) }
-        ensures { Reads (factor_at (whole_at self.now.depth) words.old.left.now) result words.new.left.now }
+        ensures { Reads (factor_at (whole_at self.now.depth) words.old.left.now) result
+            words.new.left.now }
     {
         match words.next() {
             Some(FormulaWord::Number(n)) => Ok(Formula::Number(n)),
@@ -79,7 +83,8 @@ impl<F: Fn(Global, &mut WordCursor<'_>, usize) -> Result<Formula, Stop>> Rules<F
         sign: Sign,
     ) -> Result<Formula, Stop>
         requires { Nests self.now.depth (F.pre self.now.inner) (F.post self.now.inner) }
-        ensures { Reads (with_operand (factor_at (whole_at self.now.depth)) left sign words.old.left.now) result words.new.left.now }
+        ensures { Reads (with_operand (factor_at (whole_at self.now.depth)) left sign
+            words.old.left.now) result words.new.left.now }
     {
         let right = self.factor(words)?;
         Ok(join(self.alloc, sign, left, right)?)
@@ -93,7 +98,8 @@ impl<F: Fn(Global, &mut WordCursor<'_>, usize) -> Result<Formula, Stop>> Rules<F
         sign: Sign,
     ) -> Result<Formula, Stop>
         requires { Nests self.now.depth (F.pre self.now.inner) (F.post self.now.inner) }
-        ensures { Reads (with_operand (term_at (whole_at self.now.depth)) left sign words.old.left.now) result words.new.left.now }
+        ensures { Reads (with_operand (term_at (whole_at self.now.depth)) left sign
+            words.old.left.now) result words.new.left.now }
     {
         let right = self.term(words)?;
         Ok(join(self.alloc, sign, left, right)?)
@@ -102,7 +108,8 @@ impl<F: Fn(Global, &mut WordCursor<'_>, usize) -> Result<Formula, Stop>> Rules<F
     #[tactic(auto, unfolding(crate::specs::FormulaReading::term_at))]
     fn term(&self, words: &mut WordCursor<'_>) -> Result<Formula, Stop>
         requires { Nests self.now.depth (F.pre self.now.inner) (F.post self.now.inner) }
-        ensures { Reads (term_at (whole_at self.now.depth) words.old.left.now) result words.new.left.now }
+        ensures { Reads (term_at (whole_at self.now.depth) words.old.left.now) result
+            words.new.left.now }
     {
         let mut left = self.factor(words)?;
         'turns: for _turn in 0..words.left.len() {
@@ -117,7 +124,8 @@ impl<F: Fn(Global, &mut WordCursor<'_>, usize) -> Result<Formula, Stop>> Rules<F
     #[tactic(auto, unfolding(crate::specs::FormulaReading::sum_at))]
     fn sum(&self, words: &mut WordCursor<'_>) -> Result<Formula, Stop>
         requires { Nests self.now.depth (F.pre self.now.inner) (F.post self.now.inner) }
-        ensures { Reads (sum_at (whole_at self.now.depth) words.old.left.now) result words.new.left.now }
+        ensures { Reads (sum_at (whole_at self.now.depth) words.old.left.now) result
+            words.new.left.now }
     {
         let mut left = self.term(words)?;
         'turns: for _turn in 0..words.left.len() {
@@ -132,7 +140,8 @@ impl<F: Fn(Global, &mut WordCursor<'_>, usize) -> Result<Formula, Stop>> Rules<F
     #[tactic(auto, unfolding(crate::specs::FormulaReading::comparison_at))]
     fn comparison(&self, words: &mut WordCursor<'_>) -> Result<(Formula, Test, Formula), Stop>
         requires { Nests self.now.depth (F.pre self.now.inner) (F.post self.now.inner) }
-        ensures { Reads (comparison_at (whole_at self.now.depth) words.old.left.now) result words.new.left.now }
+        ensures { Reads (comparison_at (whole_at self.now.depth) words.old.left.now) result
+            words.new.left.now }
     {
         let x = self.sum(words)?;
         let test = words.test()?;
@@ -143,7 +152,8 @@ impl<F: Fn(Global, &mut WordCursor<'_>, usize) -> Result<Formula, Stop>> Rules<F
     #[tactic(auto, unfolding(crate::specs::FormulaReading::branches_at))]
     fn branches(&self, words: &mut WordCursor<'_>) -> Result<(Formula, Formula), Stop>
         requires { Nests self.now.depth (F.pre self.now.inner) (F.post self.now.inner) }
-        ensures { Reads (branches_at (whole_at self.now.depth) words.old.left.now) result words.new.left.now }
+        ensures { Reads (branches_at (whole_at self.now.depth) words.old.left.now) result
+            words.new.left.now }
     {
         words.then()?;
         let yes = self.inner(words)?;
@@ -155,7 +165,8 @@ impl<F: Fn(Global, &mut WordCursor<'_>, usize) -> Result<Formula, Stop>> Rules<F
     #[tactic(auto, unfolding(crate::specs::FormulaReading::conditional_at))]
     fn conditional(&self, words: &mut WordCursor<'_>) -> Result<Formula, Stop>
         requires { Nests self.now.depth (F.pre self.now.inner) (F.post self.now.inner) }
-        ensures { Reads (conditional_at (whole_at self.now.depth) words.old.left.now) result words.new.left.now }
+        ensures { Reads (conditional_at (whole_at self.now.depth) words.old.left.now) result
+            words.new.left.now }
     {
         let (x, test, y) = self.comparison(words)?;
         let (yes, no) = self.branches(words)?;
@@ -165,7 +176,8 @@ impl<F: Fn(Global, &mut WordCursor<'_>, usize) -> Result<Formula, Stop>> Rules<F
     #[tactic(auto, unfolding(crate::specs::FormulaReading::whole_by))]
     pub fn whole(&self, words: &mut WordCursor<'_>) -> Result<Formula, Stop>
         requires { Nests self.now.depth (F.pre self.now.inner) (F.post self.now.inner) }
-        ensures { Reads (whole_by (whole_at self.now.depth) words.old.left.now) result words.new.left.now }
+        ensures { Reads (whole_by (whole_at self.now.depth) words.old.left.now) result
+            words.new.left.now }
     {
         if words.conditional() {
             self.conditional(words)

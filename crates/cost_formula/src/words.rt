@@ -74,21 +74,24 @@ const SYMBOLS: [(&[u8], FormulaWord); 10] = [
 
 // What a word stands for in a cost formula.
 fn cost_word(bytes: &[u8]) -> FormulaWord
-    ensures { result ≡ found_in FormulaWord.Other (variable_rows cost_variables formula_keywords) bytes.now }
+    ensures { result ≡ found_in FormulaWord.Other (variable_rows cost_variables formula_keywords)
+        bytes.now }
 {
     found_in(&COST_WORDS, bytes, FormulaWord::Other)
 }
 
 // What a word stands for in a formula of a selectivity.
 fn selectivity_word(bytes: &[u8]) -> FormulaWord
-    ensures { result ≡ found_in FormulaWord.Other (variable_rows select_variables formula_keywords) bytes.now }
+    ensures { result ≡ found_in FormulaWord.Other (variable_rows select_variables formula_keywords)
+        bytes.now }
 {
     found_in(&SELECTIVITY_WORDS, bytes, FormulaWord::Other)
 }
 
 // What a word stands for.
 fn named(vocabulary: Vocabulary, bytes: &[u8]) -> FormulaWord
-    ensures { result ≡ found_in FormulaWord.Other (variable_rows (variables_of vocabulary) formula_keywords) bytes.now }
+    ensures { result ≡ found_in FormulaWord.Other
+        (variable_rows (variables_of vocabulary) formula_keywords) bytes.now }
 {
     match vocabulary {
         Vocabulary::Cost => cost_word(bytes),
@@ -108,7 +111,8 @@ fn symbol(bytes: &[u8]) -> FormulaWord
 fn number(source: &[u8], token: &Token) -> FormulaWord
     requires token { IsTokenOf source.now token.now }
     requires number { token.now.kind ≡ TokenKind.Number }
-    ensures { (variables : List Var) → result ≡ formula_word variables (lexeme_of source.now token.now) }
+    ensures { (variables : List Var) → result
+        ≡ formula_word variables (lexeme_of source.now token.now) }
 {
     let mut cursor = Cursor::new(source, slice::from_ref(token));
     let Some(number) = cursor.number() else {
@@ -140,7 +144,8 @@ pub fn words_of(
     tokens: &[Token],
 ) -> Result<Vec<FormulaWord>, AllocError>
     requires { AreTokensOf source.now tokens.now }
-    ensures { IfOk result (λ words. words.items ≡ map (formula_word (variables_of vocabulary)) (lexemes_of source.now tokens.now)) }
+    ensures { IfOk result (λ words. words.items
+        ≡ map (formula_word (variables_of vocabulary)) (lexemes_of source.now tokens.now)) }
 {
     let mut words = Vec::new(alloc);
     for token in tokens {

@@ -81,7 +81,8 @@ fn print_goal(
     goal: &Goal,
     split: &Option<(QuantSet, QuantSet)>,
 ) -> Result<(), AllocError>
-    ensures { OnOk result (out.new ≡ ended (puts out.old (statement_of (step.Goal goal.now split.now)))) }
+    ensures { OnOk result (out.new ≡ ended (puts out.old
+        (statement_of (step.Goal goal.now split.now)))) }
 {
     out.word(b"goal")?;
     print_set(out, goal.tables)?;
@@ -98,7 +99,8 @@ fn print_reference(
     alternative: u32,
     values: &[u32],
 ) -> Result<(), AllocError>
-    ensures { OnOk result (out.new ≡ ended (puts out.old (statement_of (step.Reference star.now alternative values.now)))) }
+    ensures { OnOk result (out.new ≡ ended (puts out.old
+        (statement_of (step.Reference star.now alternative values.now)))) }
 {
     out.word(b"ref")?;
     out.word(star)?;
@@ -156,9 +158,11 @@ fn print_node(out: &mut Writer, deriv: &Deriv) -> Result<(), AllocError>
     }
 }
 
-/// The text that spells the derivation, in canonical layout: a statement for each node, in preorder, each on a line of its own.
+/// The text that spells the derivation, in canonical layout: a statement for each node, in
+/// preorder, each on a line of its own.
 ///
-/// Quantifiers and predicates are counted from 1, as a user counts them. The recursion goes as deep as the derivation.
+/// Quantifiers and predicates are counted from 1, as a user counts them. The recursion goes as deep
+/// as the derivation.
 #[tactic(auto, using(crate::proofs::Steps::whole_text))]
 pub fn print_derivation(alloc: Global, deriv: &Deriv) -> Result<Vec<u8>, AllocError>
     ensures { IfOk result (λ text. text.items ≡ canonical deriv.now) }

@@ -14,10 +14,15 @@ ghost use Rattle.star_model.specs.declared.query.Query.{Query};
 ghost use Rattle.star_model.specs.declared.derivations.Deriv.{Deriv};
 ghost use Rattle.star_model.specs.declared.rules.RuleFile.{RuleFile};
 
-/// A root derivation of a rule file that a text spells can be written, where no STAR has more alternatives than a derivation can
-/// name and no alternative more than two for-all clauses. So its canonical text spells it, behind a comment too.
+/// A root derivation of a rule file that a text spells can be written, where no STAR has more
+/// alternatives than a derivation can name and no alternative more than two for-all clauses. So its
+/// canonical text spells it, behind a comment too.
 pub fn root_derivations_are_written()
-    ensures writable { (q : Query) (rules : RuleFile) → WellFormedQuery q → (text : List ℕ) → SpellsRules text rules → KeepsCounts rules → (tree : Deriv) (v : Props) → IsRoot q rules tree v → IsWritable tree × Every NamesWord (steps tree) }
-    ensures spelled { (q : Query) (rules : RuleFile) → WellFormedQuery q → (text : List ℕ) → SpellsRules text rules → KeepsCounts rules → (tree : Deriv) (v : Props) → IsRoot q rules tree v
-        → (line : List ℕ) → AllPass in_comment line → SpellsDerivation (commented line (canonical tree)) tree }
+    ensures writable { (q : Query) (rules : RuleFile) → WellFormedQuery q → (text : List ℕ)
+        → SpellsRules text rules → KeepsCounts rules → (tree : Deriv) (v : Props)
+        → IsRoot q rules tree v → IsWritable tree × Every NamesWord (steps tree) }
+    ensures spelled { (q : Query) (rules : RuleFile) → WellFormedQuery q → (text : List ℕ)
+        → SpellsRules text rules → KeepsCounts rules → (tree : Deriv) (v : Props)
+        → IsRoot q rules tree v → (line : List ℕ) → AllPass in_comment line
+        → SpellsDerivation (commented line (canonical tree)) tree }
 {}

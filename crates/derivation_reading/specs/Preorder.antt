@@ -1,5 +1,6 @@
 -- What the reading of all statements answers.
 use Rattle.std.specs.Prelude.{◌≡◌, ◌<◌, ◌≤◌, ℕ, List, [], ◌∷◌, ◌++◌, length, map, Result, Ok, Err}
+use Rattle.sb_text.specs.Limits.{most_text_bytes}
 use Rattle.spelling.specs.Lexemes.{statements_in}
 use Rattle.derivation_reading.specs.Derivations.{Step}
 use Rattle.derivation_reading.specs.declared.fault.DerivFault.{DerivFault}
@@ -26,7 +27,7 @@ pub record SaysWhole (text : List ℕ) (nodes : List Step) : Type 0 where
 
 -- the nodes that the statements say, or the first statement that isn't understood
 abbrev pub NodesRead : List ℕ → Result (List Node) DerivFault → Type 0
-NodesRead text (Ok nodes) = SaysWhole text (map said nodes) × (length nodes ≤ 1048576)
+NodesRead text (Ok nodes) = SaysWhole text (map said nodes) × (length nodes ≤ most_text_bytes)
 NodesRead text (Err (fault.Syntax k)) = IsStrangeAt (statements_in text) k
 NodesRead text (Err fault.Memory) = Unit {0}
 NodesRead text (Err _) = ⊥

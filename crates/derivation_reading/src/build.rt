@@ -80,7 +80,8 @@ fn grown(alloc: Global, node: Node, pile: &mut Items<Deriv>) -> Result<Deriv, Al
     }
 }
 
-/// The derivation that has these nodes in preorder. It goes from the last node to the first, without recursion.
+/// The derivation that has these nodes in preorder. It goes from the last node to the first,
+/// without recursion.
 pub fn derivation_of(alloc: Global, nodes: Items<Node>) -> Result<Deriv, AllocError>
     requires { AreWhole (map said nodes) }
     ensures nodes { IfOk result (λ tree. steps tree ≡ map said nodes) }

@@ -17,7 +17,8 @@ fn glue_operator(word: &[u8]) -> Option<GlueOp>
     }
 }
 
-/// The operators that are named next, of which there may be none. A word behind the third isn't passed.
+/// The operators that are named next, of which there may be none. A word behind the third isn't
+/// passed.
 pub fn chain(cursor: &mut Cursor<'_>) -> Option<Chain>
     ensures { Reads (chain_at cursor.old) result cursor.new }
 {

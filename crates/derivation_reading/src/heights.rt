@@ -1,5 +1,6 @@
 // Nodes that stand too far down.
 ghost use Rattle.std.specs.Prelude.{◌≤◌, IfOk, MatchOption, [], ◌∷◌, length, map};
+ghost use Rattle.sb_text.specs.Limits.{most_text_bytes};
 ghost use Rattle.spelling.specs.Firsts.{FirstAt, NoneHas};
 ghost use Rattle.derivation_reading.specs.Nodes.{said};
 ghost use Rattle.derivation_reading.specs.Ancestors.{IsTooFar};
@@ -10,12 +11,16 @@ use crate::places::inputs;
 use sqlite_items::Items;
 use std::alloc::{AllocError, Global};
 
-/// The number, from 1, of the first node with more than 2,047 ancestors, where these are the nodes of a derivation in preorder.
+/// The number, from 1, of the first node with more than 2,047 ancestors, where these are the nodes
+/// of a derivation in preorder.
 pub fn first_too_far(alloc: Global, nodes: &[Node]) -> Result<Option<u32>, AllocError>
-    requires { length nodes.now ≤ 1048576 }
-    ensures { IfOk result (λ found. MatchOption found (NoneHas IsTooFar (ancestors_of (0 ∷ []) (map said nodes.now))) (FirstAt IsTooFar (ancestors_of (0 ∷ []) (map said nodes.now)))) }
+    requires { length nodes.now ≤ most_text_bytes }
+    ensures { IfOk result (λ found. MatchOption found
+        (NoneHas IsTooFar (ancestors_of (0 ∷ []) (map said nodes.now)))
+        (FirstAt IsTooFar (ancestors_of (0 ∷ []) (map said nodes.now)))) }
 {
-    // How many ancestors a node has in each place that is left to fill. The next place is the last one.
+    // How many ancestors a node has in each place that is left to fill. The next place is the last
+    // one.
     let mut places = Items::new(alloc);
     places.push(0u32)?;
     let mut number = 1u32;

@@ -25,7 +25,8 @@ pub fn counted_number(cursor: &mut Cursor<'_>) -> Option<u32>
     counted(number)
 }
 
-/// The for-all values that come next, of which there may be none. A number behind the second isn't passed.
+/// The for-all values that come next, of which there may be none. A number behind the second isn't
+/// passed.
 pub fn values(cursor: &mut Cursor<'_>) -> Option<ForAllValues>
     ensures { Reads (values_at cursor.old) result cursor.new }
 {

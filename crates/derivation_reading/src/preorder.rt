@@ -1,5 +1,6 @@
 // Reading all statements of a text.
 ghost use Rattle.std.specs.Prelude.{◌≤◌, length};
+ghost use Rattle.sb_text.specs.Limits.{most_text_bytes};
 ghost use Rattle.sb_text.specs.Refusal.{AreTokens};
 ghost use Rattle.derivation_reading.specs.Preorder.{NodesRead};
 
@@ -12,10 +13,11 @@ use spelling::Unread;
 use sqlite_items::Items;
 use std::alloc::Global;
 
-/// The nodes that the statements of a text say, which are those of a derivation in preorder. The answer is a fault of the kind
+/// The nodes that the statements of a text say, which are those of a derivation in preorder. The
+/// answer is a fault of the kind
 /// `Syntax` or `Memory` otherwise.
 pub fn read_nodes(alloc: Global, source: &[u8], tokens: &[Token]) -> Result<Items<Node>, DerivFault>
-    requires size { length source.now ≤ 1048576 }
+    requires size { length source.now ≤ most_text_bytes }
     requires tokens { AreTokens source.now tokens.now }
     ensures { NodesRead source.now result }
 {

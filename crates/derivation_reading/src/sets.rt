@@ -43,7 +43,8 @@ impl Members for PredSet {
     }
 }
 
-// The member that a number stands for, counted from 1, where it isn't below the least that may come.
+// The member that a number stands for, counted from 1, where it isn't below the least that may
+// come.
 fn member_of(least: u8, number: u64) -> Option<u8>
     ensures { result ≡ member_of least number }
 {

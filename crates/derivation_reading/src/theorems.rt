@@ -2,6 +2,7 @@
 
 ghost use Rattle.std.specs.Prelude.{◌≡◌, ◌↔◌, ◌⊎◌, ◌≤◌, ℕ, List, length, Result, Ok, Err};
 ghost use Rattle.std.specs.List.{AllPass};
+ghost use Rattle.sb_text.specs.Limits.{most_text_bytes};
 ghost use Rattle.sb_text.specs.Front.{in_comment};
 ghost use Rattle.star_model.specs.Judging.{node_count};
 ghost use Rattle.star_model.specs.declared.derivations.Deriv.{Deriv};
@@ -16,12 +17,14 @@ ghost use Rattle.star_model.specs.Monotone.{nodes};
 
 /// One text has at most one first fault.
 pub fn one_fault()
-    ensures { (text : List ℕ) (f g : DerivFault) → IsFirstFault text f → IsFirstFault text g → f ≡ g }
+    ensures { (text : List ℕ) (f g : DerivFault) → IsFirstFault text f → IsFirstFault text g
+        → f ≡ g }
 {}
 
 /// Each text that may be read has a verdict: it is accepted, or has a first fault.
 pub fn some_verdict()
-    ensures { (text : List ℕ) → length text ≤ 1048576 → ((tree : Deriv) × IsAccepted text tree) ⊎ ((fault : DerivFault) × IsFirstFault text fault) }
+    ensures { (text : List ℕ) → length text ≤ most_text_bytes → ((tree : Deriv) × IsAccepted text tree)
+        ⊎ ((fault : DerivFault) × IsFirstFault text fault) }
 {}
 
 /// One text is accepted as at most one derivation.
@@ -31,33 +34,46 @@ pub fn one_derivation()
 
 /// A text is accepted exactly where it spells a derivation of at most 2,048 levels.
 pub fn spelled_derivations_are_accepted()
-    ensures { (text : List ℕ) (tree : Deriv) → IsAccepted text tree ↔ (SpellsDerivation text tree × IsLow tree) }
+    ensures { (text : List ℕ) (tree : Deriv) → IsAccepted text tree
+        ↔ (SpellsDerivation text tree × IsLow tree) }
 {}
 
 /// A derivation has no more nodes than the text that spells it has bytes.
 pub fn derivations_have_few_nodes()
-    ensures { (text : List ℕ) (tree : Deriv) → SpellsDerivation text tree → node_count tree ≤ length text }
+    ensures { (text : List ℕ) (tree : Deriv) → SpellsDerivation text tree
+        → node_count tree ≤ length text }
 {}
 
-/// What is printed is read back: reading a text that spells a derivation of at most 2,048 levels gives this derivation, or memory is
-/// wanting. So it is with its canonical text, also behind a comment, where it can be written and its STARs are named by words.
+/// What is printed is read back: reading a text that spells a derivation of at most 2,048 levels
+/// gives this derivation, or memory is wanting. So it is with its canonical text, also behind a
+/// comment, where it can be written and its STARs are named by words.
 pub fn derivations_are_read_back()
-    ensures spelled { (text : List ℕ) (tree : Deriv) → SpellsDerivation text tree → IsLow tree → (result : Result Deriv DerivFault) → ReadsDerivation text result → (result ≡ Ok tree) ⊎ (result ≡ Err Memory) }
-    ensures printed { (tree : Deriv) → IsWritable tree → Every NamesWord (steps tree) → IsLow tree → (result : Result Deriv DerivFault) → ReadsDerivation (canonical tree) result
+    ensures spelled { (text : List ℕ) (tree : Deriv) → SpellsDerivation text tree → IsLow tree
+        → (result : Result Deriv DerivFault) → ReadsDerivation text result → (result ≡ Ok tree)
+        ⊎ (result ≡ Err Memory) }
+    ensures printed { (tree : Deriv) → IsWritable tree → Every NamesWord (steps tree) → IsLow tree
+        → (result : Result Deriv DerivFault) → ReadsDerivation (canonical tree) result
         → (result ≡ Ok tree) ⊎ (result ≡ Err Memory) }
-    ensures commented { (line : List ℕ) (tree : Deriv) → AllPass in_comment line → IsWritable tree → Every NamesWord (steps tree) → IsLow tree → (result : Result Deriv DerivFault)
-        → ReadsDerivation (commented line (canonical tree)) result → (result ≡ Ok tree) ⊎ (result ≡ Err Memory) }
+    ensures commented { (line : List ℕ) (tree : Deriv) → AllPass in_comment line → IsWritable tree
+        → Every NamesWord (steps tree) → IsLow tree → (result : Result Deriv DerivFault)
+        → ReadsDerivation (commented line (canonical tree)) result → (result ≡ Ok tree)
+        ⊎ (result ≡ Err Memory) }
 {}
 
 /// One text spells at most one derivation.
 pub fn one_spelled_derivation()
-    ensures { (text : List ℕ) (t u : Deriv) → SpellsDerivation text t → SpellsDerivation text u → t ≡ u }
+    ensures { (text : List ℕ) (t u : Deriv) → SpellsDerivation text t → SpellsDerivation text u
+        → t ≡ u }
 {}
 
-/// The canonical text of a derivation spells it where it can be written and its STARs are named by words, and where any text spells it.
-/// A comment on a line of its own before it makes no difference.
+/// The canonical text of a derivation spells it where it can be written and its STARs are named by
+/// words, and where any text spells it. A comment on a line of its own before it makes no
+/// difference.
 pub fn canonical_derivations_spell()
-    ensures written { (tree : Deriv) → IsWritable tree → Every NamesWord (steps tree) → SpellsDerivation (canonical tree) tree }
-    ensures spelled { (text : List ℕ) (tree : Deriv) → SpellsDerivation text tree → SpellsDerivation (canonical tree) tree }
-    ensures commented { (line : List ℕ) (tree : Deriv) → AllPass in_comment line → IsWritable tree → Every NamesWord (steps tree) → SpellsDerivation (commented line (canonical tree)) tree }
+    ensures written { (tree : Deriv) → IsWritable tree → Every NamesWord (steps tree)
+        → SpellsDerivation (canonical tree) tree }
+    ensures spelled { (text : List ℕ) (tree : Deriv) → SpellsDerivation text tree
+        → SpellsDerivation (canonical tree) tree }
+    ensures commented { (line : List ℕ) (tree : Deriv) → AllPass in_comment line → IsWritable tree
+        → Every NamesWord (steps tree) → SpellsDerivation (commented line (canonical tree)) tree }
 {}

@@ -1,6 +1,6 @@
 // Lists of members.
 
-ghost use Rattle.std.specs.Prelude.{◌≡◌, ◌≤◌, IfOk, OnErr};
+ghost use Rattle.std.specs.Prelude.{◌≡◌, ◌≤◌, None, IfOk, OnErr};
 ghost use Rattle.std.specs.Vec.{vec_capacity, vec_len};
 ghost use Rattle.dominance_prune.specs.Offers.{Answered, first_above, survivors};
 
@@ -25,6 +25,7 @@ fn drop_covered<T: Ranked>(members: &mut Vec<T>, item: &T)
 pub fn offer<T: Ranked>(members: &mut Vec<T>, item: T) -> Result<Offer, AllocError>
     ensures answered { IfOk result (Answered T.outranks members.old.items item members.new.items) }
     ensures memory { OnErr result (members.new.items ≡ members.old.items) }
+    ensures wanted { OnErr result (first_above T.outranks members.old.items item ≡ None) }
 {
     if let Some(first) = first_cover(members.as_slice(), &item) {
         return Ok(Offer::Covered(first));

@@ -1,10 +1,10 @@
 // Sets of which no member covers another.
 
-ghost use Rattle.std.specs.Prelude.{◌≡◌, [], length, IfOk, OnOk, OnErr};
+ghost use Rattle.std.specs.Prelude.{◌≡◌, None, [], length, IfOk, OnOk, OnErr};
 ghost use Rattle.std.specs.Iterator.{YieldsFirstRef, item_count};
 ghost use Rattle.dominance_prune.specs.Antichains.{IsAntichain};
 ghost use Rattle.dominance_prune.specs.Gathering.{Gathers};
-ghost use Rattle.dominance_prune.specs.Offers.{Answered};
+ghost use Rattle.dominance_prune.specs.Offers.{Answered, first_above};
 ghost use Rattle.dominance_prune.specs.Iterating.{plan_iter_rest};
 
 use crate::members;
@@ -21,8 +21,9 @@ pub enum Offer {
     Covered(usize),
 }
 
-/// Plans of one goal, or other items, in the order in which they were kept. No member covers another, so the set is no larger than it must be
-/// to have something as good as each item that was offered.
+/// Plans of one goal, or other items, in the order in which they were kept. No member covers
+/// another, so the set is no larger than it must be to have something as good as each item that was
+/// offered.
 #[derive(Drop)]
 pub struct PlanSet<T: Ranked> {
     members: Vec<T>,
@@ -74,13 +75,15 @@ impl<T: Ranked> PlanSet<T> {
         let _ = &self.members;
     }
 
-    /// Adds the item, in place of the members that it covers, unless a member covers it. Where memory is wanting, the set stays as it is and
-    /// the item is dropped.
+    /// Adds the item, in place of the members that it covers, unless a member covers it. Where
+    /// memory is wanting, the set stays as it is and the item is dropped.
     pub fn offer(&mut self, item: T) -> Result<Offer, AllocError>
         ensures answered { IfOk result (Answered T.outranks self.old item self.new) }
         // What both answers come to.
         ensures gathered { OnOk result (Gathers T.outranks self.old self.new (λ x. x ≡ item)) }
         ensures memory { OnErr result (self.new ≡ self.old) }
+        // Memory is asked for only where no member covers the item.
+        ensures wanted { OnErr result (first_above T.outranks self.old item ≡ None) }
     {
         members::offer(&mut self.members, item)
     }

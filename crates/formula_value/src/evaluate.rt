@@ -45,7 +45,8 @@ fn holds(test: Test, x: Num, y: Num) -> bool
 
 /// The value of a formula, where each variable stands for its entry. It takes no memory.
 ///
-/// Only the branch of an `if` that is taken is evaluated. The recursion goes as deep as the formula nests.
+/// Only the branch of an `if` that is taken is evaluated. The recursion goes as deep as the formula
+/// nests.
 #[tactic(auto, using(star_model::specs::FormulasEquations::value_cases))]
 pub fn eval(formula: &Formula, vars: &Vars) -> Num
     ensures { result ≡ value formula.now vars.now }

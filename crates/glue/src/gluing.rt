@@ -14,7 +14,8 @@ use star_model::plans::Require;
 use star_model::query::Query;
 use std::alloc::{AllocError, Global};
 
-/// What satisfies the requirement of all that chains of its operators make of the members: the best of it.
+/// What satisfies the requirement of all that chains of its operators make of the members: the best
+/// of it.
 pub fn glue(
     alloc: Global,
     query: &Query,
@@ -24,7 +25,8 @@ pub fn glue(
 ) -> Result<PlanSet<Entry>, AllocError>
     requires query { WellFormedQuery query.now }
     requires fits { AllFit query.now costs.now plans.now }
-    ensures glued { IfOk result (IsFrontier is_better_plan (From plans.now (GluesTo query.now costs.now require.now))) }
+    ensures glued { IfOk result (IsFrontier is_better_plan
+        (From plans.now (GluesTo query.now costs.now require.now))) }
     ensures fits { IfOk result (AllFit query.now costs.now) }
 {
     let mut out = PlanSet::new(alloc);

@@ -1,4 +1,5 @@
-//! Glue, the enforcer of required properties: chains of SORT, SHIP and STORE over the members of a set of plans.
+//! Glue, the enforcer of required properties: chains of SORT, SHIP and STORE over the members of a
+//! set of plans.
 #![tactic(auto)]
 
 mod chains;

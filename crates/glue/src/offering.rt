@@ -17,7 +17,8 @@ use star_model::query::Query;
 use std::alloc::{AllocError, Global};
 use std::slice;
 
-/// Offers what the chains among these lists make of each member, where the vector satisfies the requirement.
+/// Offers what the chains among these lists make of each member, where the vector satisfies the
+/// requirement.
 pub fn add_chains(
     alloc: Global,
     query: &Query,
@@ -30,7 +31,8 @@ pub fn add_chains(
     requires query { WellFormedQuery query.now }
     requires few { All (λ words. length words.now ≤ 3) lists.now }
     ensures { OnOk result (Gathers is_better_plan out.old out.new
-        (From (map (λ words. words.now) lists.now) (ChainsOver query.now costs.now require.now plans.now))) }
+        (From (map (λ words. words.now) lists.now)
+        (ChainsOver query.now costs.now require.now plans.now))) }
 {
     for words in lists {
         add_chain(alloc, query, costs, require, words, plans, out)?;
@@ -38,7 +40,8 @@ pub fn add_chains(
     Ok(())
 }
 
-// Offers what the chain makes of each member, if the requirement names its operators and the vector satisfies it.
+// Offers what the chain makes of each member, if the requirement names its operators and the vector
+// satisfies it.
 fn add_chain(
     alloc: Global,
     query: &Query,
@@ -50,7 +53,8 @@ fn add_chain(
 ) -> Result<(), AllocError>
     requires query { WellFormedQuery query.now }
     requires few { length words.now ≤ 3 }
-    ensures { OnOk result (Gathers is_better_plan out.old out.new (ChainsOver query.now costs.now require.now plans.now words.now)) }
+    ensures { OnOk result (Gathers is_better_plan out.old out.new
+        (ChainsOver query.now costs.now require.now plans.now words.now)) }
 {
     if !is_chain(require, words) {
         return Ok(());
@@ -72,7 +76,8 @@ fn offer_chain(
 ) -> Result<(), AllocError>
     requires query { WellFormedQuery query.now }
     requires few { length words.now ≤ 3 }
-    ensures { OnOk result (Gathers is_better_plan out.old out.new (ChainsTo query.now costs.now require.now words.now plan.now)) }
+    ensures { OnOk result (Gathers is_better_plan out.old out.new
+        (ChainsTo query.now costs.now require.now words.now plan.now)) }
 {
     if !is_wanted(query, costs, require, words, plan.props(), out) {
         return Ok(());
@@ -85,8 +90,8 @@ fn offer_chain(
     Ok(())
 }
 
-// Whether the chain is applicable over the vector and its vector satisfies the requirement, with no member of the set as good. It takes
-// no memory.
+// Whether the chain is applicable over the vector and its vector satisfies the requirement, with no
+// member of the set as good. It takes no memory.
 fn is_wanted(
     query: &Query,
     costs: &Costs,
@@ -120,7 +125,8 @@ fn chained(
     plan: &Entry,
 ) -> Result<Option<Entry>, AllocError>
     requires { WellFormedQuery query.now }
-    ensures { IfOk result (λ made. made ≡ chained query.now costs.now require.now words.now plan.now) }
+    ensures { IfOk result (λ made. made ≡ chained query.now costs.now require.now words.now
+        plan.now) }
 {
     match words {
         [] => Ok(Some(plan.clone()?)),

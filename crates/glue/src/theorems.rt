@@ -9,5 +9,6 @@ use crate::chains::CHAINS;
 
 /// Each chain of a requirement is one of 16.
 pub fn chains_are_few()
-    ensures { (r : Require) (chain : List GlueOp) → is_chain r chain ≡ true → Contains (map (λ words. words.now) CHAINS) chain }
+    ensures { (r : Require) (chain : List GlueOp) → is_chain r chain ≡ true
+        → Contains (map (λ words. words.now) CHAINS) chain }
 {}

@@ -112,7 +112,8 @@ fn may_join(query: &Query, op: &Op, left: &Props, right: &Props) -> bool
     }
 }
 
-// Whether the input's order begins with these columns, in the form that they have under its predicates.
+// Whether the input's order begins with these columns, in the form that they have under its
+// predicates.
 fn is_sorted_by(query: &Query, columns: &ColList, input: &Props) -> bool
     requires { WellFormedQuery query.now }
     ensures { result ≡ is_sorted_by query.now columns.now input.now }

@@ -16,7 +16,8 @@ use star_model::query::Query;
 use std::alloc::{AllocError, Global};
 use std::rc::Rc;
 
-/// The plan of the operator over these, which it shares; none where the operator isn't applicable to them.
+/// The plan of the operator over these, which it shares; none where the operator isn't applicable
+/// to them.
 pub fn apply(
     alloc: Global,
     query: &Query,
@@ -26,8 +27,10 @@ pub fn apply(
 ) -> Result<Option<Rc<PlanNode>>, AllocError>
     requires query { WellFormedQuery query.now }
     requires inputs { All (Fits query.now costs.now) (map (λ n. n.value) inputs.now) }
-    ensures vector { IfOk result (λ made. option_map (λ n. top_vector n.value) made ≡ step query.now costs.now op (map (λ n. top_vector n.value) inputs.now)) }
-    ensures tree { IfOk result (λ made. option_map (λ n. n.value) made ≡ tree_over query.now costs.now op (map (λ n. n.value) inputs.now)) }
+    ensures vector { IfOk result (λ made. option_map (λ n. top_vector n.value) made
+        ≡ step query.now costs.now op (map (λ n. top_vector n.value) inputs.now)) }
+    ensures tree { IfOk result (λ made. option_map (λ n. n.value) made
+        ≡ tree_over query.now costs.now op (map (λ n. n.value) inputs.now)) }
     ensures fits { IfOk result (λ made. IfSome made (λ n. Fits query.now costs.now n.value)) }
 {
     match inputs {
@@ -45,7 +48,8 @@ pub(crate) fn leaf(
     op: Op,
 ) -> Result<Option<Rc<PlanNode>>, AllocError>
     requires { WellFormedQuery query.now }
-    ensures tree { IfOk result (λ made. option_map (λ n. n.value) made ≡ leaf_tree query.now costs.now op) }
+    ensures tree { IfOk result (λ made. option_map (λ n. n.value) made
+        ≡ leaf_tree query.now costs.now op) }
     ensures fits { IfOk result (λ made. IfSome made (λ n. Fits query.now costs.now n.value)) }
 {
     let Some(props) = step_over(query, costs, &op, &Inputs::None) else {
@@ -63,7 +67,8 @@ pub(crate) fn unary(
 ) -> Result<Option<Rc<PlanNode>>, AllocError>
     requires query { WellFormedQuery query.now }
     requires input { Fits query.now costs.now input.now.value }
-    ensures tree { IfOk result (λ made. option_map (λ n. n.value) made ≡ unary_tree query.now costs.now op input.now.value) }
+    ensures tree { IfOk result (λ made. option_map (λ n. n.value) made
+        ≡ unary_tree query.now costs.now op input.now.value) }
     ensures fits { IfOk result (λ made. IfSome made (λ n. Fits query.now costs.now n.value)) }
 {
     let Some(props) = step_over(query, costs, &op, &Inputs::One(input.props())) else {
@@ -83,7 +88,8 @@ pub(crate) fn binary(
     requires query { WellFormedQuery query.now }
     requires left { Fits query.now costs.now left.now.value }
     requires right { Fits query.now costs.now right.now.value }
-    ensures tree { IfOk result (λ made. option_map (λ n. n.value) made ≡ binary_tree query.now costs.now op left.now.value right.now.value) }
+    ensures tree { IfOk result (λ made. option_map (λ n. n.value) made
+        ≡ binary_tree query.now costs.now op left.now.value right.now.value) }
     ensures fits { IfOk result (λ made. IfSome made (λ n. Fits query.now costs.now n.value)) }
 {
     let inputs = Inputs::Two(left.props(), right.props());

@@ -76,7 +76,8 @@ impl Entry {
         self.node.props()
     }
 
-    /// The vector of the operator over the entry; none where it isn't applicable. It takes no memory.
+    /// The vector of the operator over the entry; none where it isn't applicable. It takes no
+    /// memory.
     pub fn vector_under(&self, query: &Query, costs: &Costs, op: &Op) -> Option<Props>
         requires { WellFormedQuery query.now }
         ensures { result ≡ step query.now costs.now op.now (vector_of self.now ∷ []) }
@@ -84,7 +85,8 @@ impl Entry {
         step_over(query, costs, op, &Inputs::One(self.props()))
     }
 
-    /// The vector of the operator over the entry and the one at its right; none where it isn't applicable. It takes no memory.
+    /// The vector of the operator over the entry and the one at its right; none where it isn't
+    /// applicable. It takes no memory.
     pub fn vector_beside(
         &self,
         query: &Query,
@@ -93,7 +95,8 @@ impl Entry {
         right: &Entry,
     ) -> Option<Props>
         requires { WellFormedQuery query.now }
-        ensures { result ≡ step query.now costs.now op.now (vector_of self.now ∷ vector_of right.now ∷ []) }
+        ensures { result ≡ step query.now costs.now op.now
+            (vector_of self.now ∷ vector_of right.now ∷ []) }
     {
         let inputs = Inputs::Two(self.props(), right.props());
         step_over(query, costs, op, &inputs)
@@ -148,7 +151,8 @@ impl Entry {
         })
     }
 
-    /// An operator of Glue over the entry, with its vector. The derivation stays: a whole chain is one node, which `glued` puts on it.
+    /// An operator of Glue over the entry, with its vector. The derivation stays: a whole chain is
+    /// one node, which `glued` puts on it.
     pub fn enforced(&self, alloc: Global, op: Op, props: Props) -> Result<Entry, AllocError>
         requires { GivesVector op (vector_of self.now ∷ []) props }
         ensures { IfOk result (λ e. e ≡ enforced_plan op props self.now) }
@@ -161,7 +165,8 @@ impl Entry {
         })
     }
 
-    /// The plan, derived by the chain over the entry's derivation. Its operators are in the plan already.
+    /// The plan, derived by the chain over the entry's derivation. Its operators are in the plan
+    /// already.
     pub fn glued(&self, alloc: Global, chain: Chain) -> Result<Entry, AllocError>
         ensures { IfOk result (λ e. e ≡ under_glue chain self.now) }
     {

@@ -1,4 +1,5 @@
-//! Operators over plans: the vector of a result, plans whose parts are shared, and derivations beside them.
+//! Operators over plans: the vector of a result, plans whose parts are shared, and derivations
+//! beside them.
 #![tactic(auto)]
 
 mod applicability;

@@ -2,6 +2,7 @@
 
 ghost use Rattle.std.specs.Prelude.{◌≡◌, ◌<◌, ◌++◌, [], ◌∷◌, length, if◌then◌else◌};
 ghost use Rattle.std.specs.List.{list_all, list_any};
+ghost use Rattle.star_model.specs.Limits.{most_in_order};
 ghost use Rattle.star_model.specs.Sets.{has};
 ghost use Rattle.star_model.specs.Columns.{all_columns_in};
 ghost use Rattle.star_model.specs.Predicates.{preds_in};
@@ -19,7 +20,7 @@ use star_model::query::{Operand, Pred, Query};
 use star_model::sets::{PredSet, QuantSet};
 
 fn add_own(own: &mut ColList, tables: QuantSet, column: Col)
-    requires { length own.old < 16 }
+    requires { length own.old < most_in_order }
     ensures { own.new ≡ own.old ++ (if has tables column.quant.0 then column ∷ [] else []) }
 {
     if tables.has(column.quant.0) {
@@ -40,10 +41,12 @@ fn own_columns(tables: QuantSet, pred: &Pred) -> ColList
     own
 }
 
-// Whether the set has the columns of these predicates whose quantifiers are among the tables, predicate by predicate.
+// Whether the set has the columns of these predicates whose quantifiers are among the tables,
+// predicate by predicate.
 fn each_in_set(query: &Query, preds: PredSet, tables: QuantSet, set: &ColSet) -> bool
     requires { WellFormedQuery query.now }
-    ensures { result ≡ list_all (λ p. all_columns_in set.now (own_in tables p)) (preds_in query.now preds) }
+    ensures { result ≡ list_all (λ p. all_columns_in set.now (own_in tables p))
+        (preds_in query.now preds) }
 {
     preds_in(query, preds).all(|pred| has_all(set, &own_columns(tables, pred)))
 }
@@ -66,7 +69,8 @@ fn lists_all(list: &ColList, columns: &ColList) -> bool
 // The same of a list.
 fn each_in_list(query: &Query, preds: PredSet, tables: QuantSet, list: &ColList) -> bool
     requires { WellFormedQuery query.now }
-    ensures { result ≡ list_all (λ p. list_all (λ c. list_any (same_column c) list.now) (own_in tables p)) (preds_in query.now preds) }
+    ensures { result ≡ list_all (λ p. list_all (λ c. list_any (same_column c) list.now)
+        (own_in tables p)) (preds_in query.now preds) }
 {
     preds_in(query, preds).all(|pred| lists_all(list, &own_columns(tables, pred)))
 }
@@ -74,13 +78,14 @@ fn each_in_list(query: &Query, preds: PredSet, tables: QuantSet, list: &ColList)
 // Whether the list has the columns of these predicates whose quantifiers are in the set.
 fn own_columns_are_listed(query: &Query, preds: PredSet, tables: QuantSet, list: &ColList) -> bool
     requires { WellFormedQuery query.now }
-    ensures { result ≡ list_all (λ c. list_any (same_column c) list.now) (own_columns query.now preds tables) }
+    ensures { result ≡ list_all (λ c. list_any (same_column c) list.now)
+        (own_columns query.now preds tables) }
 {
     each_in_list(query, preds, tables, list)
 }
 
-/// Whether the set has one quantifier, the index at this position is on its table, and the predicates' own columns are columns of
-/// the index.
+/// Whether the set has one quantifier, the index at this position is on its table, and the
+/// predicates' own columns are columns of the index.
 pub fn index_serves(query: &Query, tables: QuantSet, index: u8, preds: PredSet) -> bool
     requires { WellFormedQuery query.now }
     ensures { result ≡ index_serves query.now tables index preds }

@@ -24,7 +24,8 @@ struct TwoCosts {
     rescan: Num,
 }
 
-// The values of the operator's formulas. Widths, which take long to sum up, are summed up where one of the two names one.
+// The values of the operator's formulas. Widths, which take long to sum up, are summed up where one
+// of the two names one.
 fn costs_of(
     query: &Query,
     op: &Op,
@@ -34,8 +35,10 @@ fn costs_of(
     rescan: &Formula,
 ) -> TwoCosts
     requires { made.now.cols ≡ cols_after query.now op.now (vectors inputs.now) }
-    ensures cost { result.cost ≡ value cost.now (vars_of query.now op.now (vectors inputs.now) made.now) }
-    ensures rescan { result.rescan ≡ value rescan.now (vars_of query.now op.now (vectors inputs.now) made.now) }
+    ensures cost { result.cost ≡ value cost.now
+        (vars_of query.now op.now (vectors inputs.now) made.now) }
+    ensures rescan { result.rescan ≡ value rescan.now
+        (vars_of query.now op.now (vectors inputs.now) made.now) }
 {
     if lacks_width(cost) && lacks_width(rescan) {
         let vars = vars_but_widths(query, op, inputs, made);
@@ -61,7 +64,8 @@ pub fn price(
     made: Props,
 ) -> Option<Props>
     requires { made.cols ≡ cols_after query.now op.now (vectors inputs.now) }
-    ensures { result ≡ price costs.now op.now (vars_of query.now op.now (vectors inputs.now) made) made }
+    ensures { result ≡ price costs.now op.now (vars_of query.now op.now (vectors inputs.now) made)
+        made }
 {
     let flavour = flavour_of(op);
     let cost = costs.formula(flavour, Which::Cost)?;

@@ -1,4 +1,5 @@
-// The properties of operators' results, but for their two costs: a column of the table of operators each.
+// The properties of operators' results, but for their two costs: a column of the table of operators
+// each.
 
 ghost use Rattle.std.specs.Prelude.{◌≡◌, true};
 ghost use Rattle.star_model.specs.Operators.{tables_after, preds_after, sorted_by, order_after, site_after, temp_after, path_after, cols_after, may_apply, unpriced};

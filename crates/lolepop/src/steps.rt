@@ -13,7 +13,8 @@ use star_model::costs::Costs;
 use star_model::plans::{Op, Props};
 use star_model::query::Query;
 
-/// The vector of the operator over inputs with these vectors; none where it isn't applicable. It takes no memory.
+/// The vector of the operator over inputs with these vectors; none where it isn't applicable. It
+/// takes no memory.
 #[tactic(auto, unfolding(star_model::specs::Operators::step))]
 pub fn step_over(query: &Query, costs: &Costs, op: &Op, inputs: &Inputs<'_>) -> Option<Props>
     requires { WellFormedQuery query.now }
@@ -27,8 +28,8 @@ pub fn step_over(query: &Query, costs: &Costs, op: &Op, inputs: &Inputs<'_>) -> 
     }
 }
 
-/// The vector of the operator over inputs with these vectors; none where it isn't applicable, or has not so many inputs. It takes no
-/// memory.
+/// The vector of the operator over inputs with these vectors; none where it isn't applicable, or
+/// has not so many inputs. It takes no memory.
 #[tactic(auto, using(crate::proofs::ArityLaws::arity_rules))]
 pub fn step(query: &Query, costs: &Costs, op: &Op, inputs: &[Props]) -> Option<Props>
     requires { WellFormedQuery query.now }

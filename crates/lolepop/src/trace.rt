@@ -45,7 +45,8 @@ pub enum Trace {
 }
 
 impl Trace {
-    /// The derivation that the trace stands for. A part that is shared is copied each time that it stands there.
+    /// The derivation that the trace stands for. A part that is shared is copied each time that it
+    /// stands there.
     #[cycle(unshare)]
     pub fn unshare(&self, alloc: Global) -> Result<Deriv, AllocError>
         ensures { IfOk result (λ d. d ≡ deriv_of self.now) }

@@ -55,7 +55,8 @@ fn rows_read(query: &Query, op: &Op) -> Num
 }
 
 fn pages_of_index(query: &Query, index: u8) -> Num
-    ensures { result ≡ option_map_or (λ i. i.pages) (slice_get query.now.catalogue.indexes index) 0 }
+    ensures { result ≡ option_map_or (λ i. i.pages) (slice_get query.now.catalogue.indexes index)
+        0 }
 {
     query
         .catalogue
@@ -182,7 +183,8 @@ fn width_of(query: &Query, input: Option<&Props>) -> Num
     }
 }
 
-// The width of a row of the result, which is that of the input's where the operator keeps its columns.
+// The width of a row of the result, which is that of the input's where the operator keeps its
+// columns.
 fn width_after(query: &Query, op: &Op, inputs: &Inputs<'_>, first: Num, cols: &ColSet) -> Num
     requires cols { cols.now ≡ cols_after query.now op.now (vectors inputs.now) }
     requires first { first ≡ width_of query.now (input_at 0 (vectors inputs.now)).cols }
@@ -201,7 +203,8 @@ fn width_after(query: &Query, op: &Op, inputs: &Inputs<'_>, first: Num, cols: &C
     }
 }
 
-/// The values of the variables, where the operator over these inputs makes a result of this vector, but for the widths, which are 0.
+/// The values of the variables, where the operator over these inputs makes a result of this vector,
+/// but for the widths, which are 0.
 pub fn vars_but_widths(query: &Query, op: &Op, inputs: &Inputs<'_>, made: &Props) -> Vars
     ensures { result ≡ without_widths (vars_of query.now op.now (vectors inputs.now) made.now) }
 {

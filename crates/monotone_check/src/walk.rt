@@ -100,7 +100,8 @@ fn enter(before: u32, offence: bool) -> Result<u32, MonoFault>
     Ok(node)
 }
 
-// How many nodes there are up to the end of a formula that so many stand before, or its first node that offends.
+// How many nodes there are up to the end of a formula that so many stand before, or its first node
+// that offends.
 #[tactic(auto, using(crate::proofs::Walks::walks, star_model::specs::NodeCounts::node_counts))]
 fn walk(formula: &Formula, before: u32) -> Result<u32, MonoFault>
     requires { before + length (nodes formula.now) < 2 ^ 32 }
@@ -134,8 +135,8 @@ fn walk(formula: &Formula, before: u32) -> Result<u32, MonoFault>
     }
 }
 
-/// The monotone check: Ok means nondecreasing. The value of a formula that passes doesn't fall where no cost of an input falls. It
-/// takes no memory.
+/// The monotone check: Ok means nondecreasing. The value of a formula that passes doesn't fall
+/// where no cost of an input falls. It takes no memory.
 ///
 /// The recursion goes as deep as the formula nests.
 #[tactic(auto, using(crate::proofs::Walks::checks))]

@@ -1,6 +1,7 @@
 // Bindings of for-all names. None of it takes memory.
 
 ghost use Rattle.std.specs.Prelude.{◌≡◌, ◌<◌, ◌≤◌, ◌+◌, ◌++◌, ◌∷◌, [], length};
+ghost use Rattle.star_model.specs.Limits.{most_bindings};
 ghost use Rattle.star_model.specs.Expected.{bound};
 ghost use Rattle.star_model.specs.WellFormed.{WellFormedQuery};
 ghost use Rattle.plan_check.specs.Bound.{member_numbered};
@@ -25,7 +26,7 @@ fn member(query: &Query, range: &Range, env: &Env, number: u32) -> Option<RuleVa
 
 // The bindings with one more.
 fn with_value(env: Env, value: RuleValue) -> Env
-    requires { length env < 10 }
+    requires { length env < most_bindings }
     ensures { result ≡ env ++ value ∷ [] }
 {
     let mut more = env;
@@ -34,10 +35,11 @@ fn with_value(env: Env, value: RuleValue) -> Env
     more
 }
 
-// The bindings with a value for each of these names; none where the numbers are more or fewer, or one is no member's.
+// The bindings with a value for each of these names; none where the numbers are more or fewer, or
+// one is no member's.
 pub fn bind(query: &Query, ranges: &[ForAll], numbers: &[u32], env: Env) -> Option<Env>
     requires query { WellFormedQuery query.now }
-    requires room { length env + length numbers.now ≤ 10 }
+    requires room { length env + length numbers.now ≤ most_bindings }
     ensures { result ≡ bound query.now ranges.now numbers.now env }
 {
     match ranges {

@@ -2,6 +2,7 @@
 
 ghost use Rattle.std.specs.Prelude.{◌≡◌, ◌≤◌, length};
 ghost use Rattle.std.specs.Option.{option_map, option_copied};
+ghost use Rattle.star_model.specs.Limits.{most_parameters};
 ghost use Rattle.star_model.specs.Expected.{Expression, Call, reference_body, body_of};
 ghost use Rattle.star_model.specs.Stars.{alternative_of};
 ghost use Rattle.star_model.specs.WellFormed.{WellFormedQuery};
@@ -25,12 +26,14 @@ fn alternative<'a>(rules: &'a CheckedRules, star: &Name, number: u32) -> Option<
     }
 }
 
-// The body of the alternative under the values of the STAR's parameters and those of its for-all names, if it applies.
+// The body of the alternative under the values of the STAR's parameters and those of its for-all
+// names, if it applies.
 fn body_of<'a>(basis: &Basis<'a>, referred: &Referred<'_>, call: Env) -> Option<(&'a PlanExpr, Env)>
     requires query { WellFormedQuery basis.now.query.now }
-    requires room { length call ≤ 8 }
+    requires room { length call ≤ most_parameters }
     ensures { option_map (λ p. Expression p.0.now p.1) result
-        ≡ body_of basis.now.query.now basis.now.rules.now referred.now.star.now call referred.now.alternative referred.now.values.now }
+        ≡ body_of basis.now.query.now basis.now.rules.now referred.now.star.now call
+        referred.now.alternative referred.now.values.now }
 {
     let found = alternative(basis.rules, referred.star, referred.alternative)?;
     let numbers = referred.values.as_slice();
@@ -50,9 +53,10 @@ pub fn reference_body<'a>(
     call: Env,
 ) -> Option<(&'a PlanExpr, Env)>
     requires query { WellFormedQuery basis.now.query.now }
-    requires room { length call ≤ 8 }
+    requires room { length call ≤ most_parameters }
     ensures { option_map (λ p. Expression p.0.now p.1) result
-        ≡ reference_body basis.now.query.now basis.now.rules.now referred.now.star.now referred.now.alternative referred.now.values.now (Call letters.now call) }
+        ≡ reference_body basis.now.query.now basis.now.rules.now referred.now.star.now
+        referred.now.alternative referred.now.values.now (Call letters.now call) }
 {
     if referred.star.as_slice() == letters {
         body_of(basis, referred, call)

@@ -9,7 +9,8 @@ use star_model::costs::Costs;
 use star_model::plans::{GlueOp, Props, Require};
 use star_model::query::Query;
 
-// The vector of these operators over the input, the first next to it; none where one isn't applicable.
+// The vector of these operators over the input, the first next to it; none where one isn't
+// applicable.
 pub fn chain_vector(
     query: &Query,
     costs: &Costs,

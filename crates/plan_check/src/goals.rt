@@ -1,4 +1,5 @@
-// Goals: the root STAR that a goal node calls, and the target of its plans. None of it takes memory.
+// Goals: the root STAR that a goal node calls, and the target of its plans. None of it takes
+// memory.
 
 ghost use Rattle.std.specs.Prelude.{◌≡◌, ◌&&◌, not, nat_eq};
 ghost use Rattle.std.specs.Option.{option_map};
@@ -15,7 +16,8 @@ use star_value::{Env, root_values};
 
 // Whether these are two nonempty disjoint sets whose union is the set.
 fn is_split(tables: QuantSet, left: QuantSet, right: QuantSet) -> bool
-    ensures { result ≡ (nat_eq (union left right) tables && nat_eq (meet left right) 0 && not (nat_eq left 0) && not (nat_eq right 0)) }
+    ensures { result ≡ (nat_eq (union left right) tables && nat_eq (meet left right) 0
+        && not (nat_eq left 0) && not (nat_eq right 0)) }
 {
     let none = QuantSet::empty();
     left.union(right) == tables && left.meet(right) == none && left != none && right != none
@@ -42,14 +44,15 @@ fn root_call(goal: Goal, split: &Option<(QuantSet, QuantSet)>) -> (&'static [u8]
     (name, root_values(goal, *split))
 }
 
-// What the body of a goal node stands against that stands against the wanted goal: a call of a root STAR. None where the node has another
-// goal, or a split that the goal hasn't.
+// What the body of a goal node stands against that stands against the wanted goal: a call of a root
+// STAR. None where the node has another goal, or a split that the goal hasn't.
 pub fn goal_body(
     wanted: Goal,
     goal: &Goal,
     split: &Option<(QuantSet, QuantSet)>,
 ) -> Option<(&'static [u8], Env)>
-    ensures { option_map (λ p. Call p.0.now p.1) result ≡ goal_body goal.now split.now (ForGoal wanted.tables wanted.pushed) }
+    ensures { option_map (λ p. Call p.0.now p.1) result
+        ≡ goal_body goal.now split.now (ForGoal wanted.tables wanted.pushed) }
 {
     if goal.tables == wanted.tables
         && goal.pushed == wanted.pushed
@@ -61,7 +64,8 @@ pub fn goal_body(
     }
 }
 
-// Whether the vector has the goal's tables, their columns that the query names, and their predicates with the pushed ones.
+// Whether the vector has the goal's tables, their columns that the query names, and their
+// predicates with the pushed ones.
 pub fn is_target(query: &Query, goal: &Goal, props: &Props) -> bool
     requires { WellFormedQuery query.now }
     ensures { result ≡ is_target query.now goal.now.tables goal.now.pushed props.now }

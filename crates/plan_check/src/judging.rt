@@ -1,6 +1,8 @@
-// Judging of a derivation, node by node from the top. The recursion leaves a node at once where it doesn't fit: however deep the tree is, it
-// goes no deeper than the rules do. In what reading accepts they lead through 12 goals of ever fewer quantifiers, each below a Glue node, and
-// in each through 16 STARs one above another, each a reference over at most 8 levels of a body, which makes at most 1,752 levels.
+// Judging of a derivation, node by node from the top. The recursion leaves a node at once where it
+// doesn't fit: however deep the tree is, it goes no deeper than the rules do. In what reading
+// accepts they lead through 12 goals of ever fewer quantifiers, each below a Glue node, and in each
+// through 16 STARs one above another, each a reference over at most 8 levels of a body, which makes
+// at most 1,752 levels.
 
 ghost use Rattle.std.specs.Prelude.{◌≡◌, ◌<◌, ◌≤◌, ◌+◌, ◌^◌, Some, IfOk, IfErr};
 ghost use Rattle.star_model.specs.Expected.{Expected, Expression, ForGoal, Call, glue_of, root_requirement, query_goal};
@@ -38,7 +40,8 @@ fn judge_expression(
     requires query { WellFormedQuery basis.now.query.now }
     requires place { IsPlace basis.now.rules.now (Expression expr.now env.now) }
     requires room { node + node_count deriv.now ≤ 2 ^ 32 }
-    ensures { Tells result (judge basis.now.query.now basis.now.rules.now deriv.now (Expression expr.now env.now) node) (node + node_count deriv.now) }
+    ensures { Tells result (judge basis.now.query.now basis.now.rules.now deriv.now
+        (Expression expr.now env.now) node) (node + node_count deriv.now) }
 {
     match deriv {
         Deriv::Glue { chain, goal } => judge_glue(basis, chain, goal.get(), expr, env, node),
@@ -85,8 +88,8 @@ fn judge_unary(
     requires query { WellFormedQuery basis.now.query.now }
     requires place { IsPlace basis.now.rules.now (Expression expr.now env.now) }
     requires room { node + 1 + node_count input.now ≤ 2 ^ 32 }
-    ensures { Tells result
-        (judge basis.now.query.now basis.now.rules.now (made.Unary flavour input.now) (Expression expr.now env.now) node)
+    ensures { Tells result (judge basis.now.query.now basis.now.rules.now
+        (made.Unary flavour input.now) (Expression expr.now env.now) node)
         (node + 1 + node_count input.now) }
 {
     basis.rules.stands();
@@ -117,8 +120,8 @@ fn judge_binary(
     requires query { WellFormedQuery basis.now.query.now }
     requires place { IsPlace basis.now.rules.now (Expression expr.now env.now) }
     requires room { node + 1 + node_count left.now + node_count right.now ≤ 2 ^ 32 }
-    ensures { Tells result
-        (judge basis.now.query.now basis.now.rules.now (made.Binary flavour left.now right.now) (Expression expr.now env.now) node)
+    ensures { Tells result (judge basis.now.query.now basis.now.rules.now
+        (made.Binary flavour left.now right.now) (Expression expr.now env.now) node)
         (node + 1 + node_count left.now + node_count right.now) }
 {
     basis.rules.stands();
@@ -152,10 +155,9 @@ fn judge_reference(
     requires query { WellFormedQuery basis.now.query.now }
     requires place { IsPlace basis.now.rules.now (Expression expr.now env.now) }
     requires room { node + 1 + node_count body.now ≤ 2 ^ 32 }
-    ensures { Tells result
-        (judge basis.now.query.now basis.now.rules.now (made.Reference referred.now.star.now referred.now.alternative referred.now.values.now body.now)
-        (Expression expr.now env.now) node)
-        (node + 1 + node_count body.now) }
+    ensures { Tells result (judge basis.now.query.now basis.now.rules.now
+        (made.Reference referred.now.star.now referred.now.alternative referred.now.values.now
+        body.now) (Expression expr.now env.now) node) (node + 1 + node_count body.now) }
 {
     basis.rules.stands();
     match called(basis, expr, env) {
@@ -179,10 +181,9 @@ fn judge_body(
     requires query { WellFormedQuery basis.now.query.now }
     requires place { IsPlace basis.now.rules.now (Call letters.now call) }
     requires room { node + 1 + node_count body.now ≤ 2 ^ 32 }
-    ensures { Tells result
-        (judge basis.now.query.now basis.now.rules.now (made.Reference referred.now.star.now referred.now.alternative referred.now.values.now body.now)
-        (Call letters.now call) node)
-        (node + 1 + node_count body.now) }
+    ensures { Tells result (judge basis.now.query.now basis.now.rules.now
+        (made.Reference referred.now.star.now referred.now.alternative referred.now.values.now
+        body.now) (Call letters.now call) node) (node + 1 + node_count body.now) }
 {
     basis.rules.stands();
     match reference_body(basis, referred, letters, call) {
@@ -204,7 +205,8 @@ fn judge_call(
     requires query { WellFormedQuery basis.now.query.now }
     requires place { IsPlace basis.now.rules.now (Call letters.now call) }
     requires room { node + node_count deriv.now ≤ 2 ^ 32 }
-    ensures { Tells result (judge basis.now.query.now basis.now.rules.now deriv.now (Call letters.now call) node) (node + node_count deriv.now) }
+    ensures { Tells result (judge basis.now.query.now basis.now.rules.now deriv.now
+        (Call letters.now call) node) (node + node_count deriv.now) }
 {
     match deriv {
         Deriv::Reference {
@@ -240,7 +242,8 @@ fn judge_goal(
     requires query { WellFormedQuery basis.now.query.now }
     requires place { IsPlace basis.now.rules.now (ForGoal wanted.tables wanted.pushed) }
     requires room { node + node_count deriv.now ≤ 2 ^ 32 }
-    ensures { Tells result (judge basis.now.query.now basis.now.rules.now deriv.now (ForGoal wanted.tables wanted.pushed) node) (node + node_count deriv.now) }
+    ensures { Tells result (judge basis.now.query.now basis.now.rules.now deriv.now
+        (ForGoal wanted.tables wanted.pushed) node) (node + node_count deriv.now) }
 {
     match deriv {
         Deriv::Goal { goal, split, body } => {
@@ -278,8 +281,10 @@ fn judge_chain(
     requires query { WellFormedQuery basis.now.query.now }
     requires place { IsPlace basis.now.rules.now (ForGoal wanted.tables wanted.pushed) }
     requires room { node + 1 + node_count goal.now ≤ 2 ^ 32 }
-    ensures { (x : Expected) → glue_of basis.now.query.now x ≡ Some (require.now, ForGoal wanted.tables wanted.pushed)
-        → Tells result (judge basis.now.query.now basis.now.rules.now (made.Glue chain.now goal.now) x node) (node + 1 + node_count goal.now) }
+    ensures { (x : Expected) → glue_of basis.now.query.now x
+        ≡ Some (require.now, ForGoal wanted.tables wanted.pushed)
+        → Tells result (judge basis.now.query.now basis.now.rules.now (made.Glue chain.now goal.now)
+        x node) (node + 1 + node_count goal.now) }
 {
     if !is_chain(require, chain.as_slice()) {
         return Err(NotDerived { node });
@@ -305,8 +310,8 @@ fn judge_glue(
     requires query { WellFormedQuery basis.now.query.now }
     requires place { IsPlace basis.now.rules.now (Expression expr.now env.now) }
     requires room { node + 1 + node_count goal.now ≤ 2 ^ 32 }
-    ensures { Tells result
-        (judge basis.now.query.now basis.now.rules.now (made.Glue chain.now goal.now) (Expression expr.now env.now) node)
+    ensures { Tells result (judge basis.now.query.now basis.now.rules.now
+        (made.Glue chain.now goal.now) (Expression expr.now env.now) node)
         (node + 1 + node_count goal.now) }
 {
     basis.rules.stands();
@@ -339,12 +344,14 @@ fn query_goal(query: &Query) -> Goal
     }
 }
 
-/// Judges a whole derivation, which anyone may have written: it may name STARs, alternatives and members that aren't there, and goals and
-/// operators that don't belong where they stand. Of a derivation of the query under the rules it gives the properties of its plan, with
-/// their costs under the rules' formulas; of any other tree the first invalid node.
+/// Judges a whole derivation, which anyone may have written: it may name STARs, alternatives and
+/// members that aren't there, and goals and operators that don't belong where they stand. Of a
+/// derivation of the query under the rules it gives the properties of its plan, with their costs
+/// under the rules' formulas; of any other tree the first invalid node.
 ///
-/// Each node is judged once, and none below one that doesn't fit. It takes no memory. How much it takes of the stack depends on how deep the
-/// rules nest and not on the tree: under 3 MiB, as measured.
+/// Each node is judged once, and none below one that doesn't fit. It takes no memory. How much it
+/// takes of the stack depends on how deep the rules nest and not on the tree: under 3 MiB, as
+/// measured.
 #[tactic(auto, using(star_model::specs::JudgingEquations::judge_cases))]
 pub fn check_derivation(
     rules: &CheckedRules,
@@ -354,7 +361,8 @@ pub fn check_derivation(
     requires query { WellFormedQuery query.now }
     requires size { node_count deriv.now < 2 ^ 32 }
     ensures derived { IfOk result (λ v. judge_root query.now rules.now deriv.now ≡ Vector v) }
-    ensures invalid { IfErr result (λ e. judge_root query.now rules.now deriv.now ≡ FirstInvalid e.node) }
+    ensures invalid { IfErr result (λ e. judge_root query.now rules.now deriv.now
+        ≡ FirstInvalid e.node) }
 {
     rules.stands();
     let basis = Basis { rules, query };

@@ -1,5 +1,5 @@
-// What the parts of a node stand against that stands against a body under bindings; none where the node doesn't fit. None of it takes
-// memory.
+// What the parts of a node stand against that stands against a body under bindings; none where the
+// node doesn't fit. None of it takes memory.
 
 ghost use Rattle.std.specs.Prelude.{◌≡◌};
 ghost use Rattle.std.specs.Option.{option_map, option_copied};
@@ -19,7 +19,8 @@ use star_value::{Env, glued_goal, operator, preds, stream, values};
 #[tactic(auto, using(star_model::specs::PlanExprCases::planExprCases_made))]
 pub fn glue_of(expr: &PlanExpr, env: &Env, query: &Query) -> Option<(Require, Goal)>
     requires { WellFormedQuery query.now }
-    ensures { option_map (λ p. (p.0, ForGoal p.1.tables p.1.pushed)) result ≡ glue_of query.now (Expression expr.now env.now) }
+    ensures { option_map (λ p. (p.0, ForGoal p.1.tables p.1.pushed)) result
+        ≡ glue_of query.now (Expression expr.now env.now) }
 {
     match expr {
         PlanExpr::Glue {
@@ -42,7 +43,8 @@ pub fn glue_of(expr: &PlanExpr, env: &Env, query: &Query) -> Option<(Require, Go
 pub fn called<'a>(basis: &Basis<'_>, expr: &'a PlanExpr, env: &Env) -> Option<(&'a Name, Env)>
     requires query { WellFormedQuery basis.now.query.now }
     requires place { IsPlace basis.now.rules.now (Expression expr.now env.now) }
-    ensures { option_map (λ p. (p.0.now, p.1)) result ≡ as_call basis.now.query.now (Expression expr.now env.now) }
+    ensures { option_map (λ p. (p.0.now, p.1)) result
+        ≡ as_call basis.now.query.now (Expression expr.now env.now) }
 {
     basis.rules.stands();
     match expr {
@@ -151,7 +153,8 @@ pub fn as_unary<'a>(
     query: &Query,
 ) -> Option<(Op, &'a PlanExpr)>
     requires { WellFormedQuery query.now }
-    ensures { option_map (λ p. (p.0, Expression p.1.now env.now)) result ≡ as_unary query.now flavour (Expression expr.now env.now) }
+    ensures { option_map (λ p. (p.0, Expression p.1.now env.now)) result
+        ≡ as_unary query.now flavour (Expression expr.now env.now) }
 {
     let (args, input) = unary_of(flavour, expr)?;
     Some((operator(flavour, args.as_slice(), env, query), input))

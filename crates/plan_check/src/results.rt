@@ -28,7 +28,8 @@ pub fn stepped(
     last: u32,
 ) -> Result<Judged, NotDerived>
     requires { WellFormedQuery basis.now.query.now }
-    ensures { Tells result (vector_or node (step basis.now.query.now (costs_of basis.now.rules.now) op.now inputs.now)) (last + 1) }
+    ensures { Tells result (vector_or node (step basis.now.query.now (costs_of basis.now.rules.now)
+        op.now inputs.now)) (last + 1) }
 {
     let made = step(basis.query, basis.rules.costs(), op, inputs);
     answer(made, node, last)
@@ -49,7 +50,8 @@ fn only_satisfying(query: &Query, require: &Require, props: Props) -> Option<Pro
 fn chained(basis: &Basis<'_>, require: &Require, chain: &Chain, input: Props) -> Option<Props>
     requires { WellFormedQuery basis.now.query.now }
     ensures { result ≡ option_and_then (only_if (λ v. satisfies basis.now.query.now v require.now))
-        (chain_vector basis.now.query.now (costs_of basis.now.rules.now) require.now chain.now input) }
+        (chain_vector basis.now.query.now (costs_of basis.now.rules.now) require.now chain.now
+        input) }
 {
     let costs = basis.rules.costs();
     let made = chain_vector(basis.query, costs, require, chain.as_slice(), input)?;
@@ -66,10 +68,10 @@ pub fn enforced(
     node: u32,
 ) -> Result<Judged, NotDerived>
     requires { WellFormedQuery basis.now.query.now }
-    ensures { Tells result
-        (vector_or node (option_and_then (only_if (λ v. satisfies basis.now.query.now v require.now))
-        (chain_vector basis.now.query.now (costs_of basis.now.rules.now) require.now chain.now below.props)))
-        (below.last + 1) }
+    ensures { Tells result (vector_or node (option_and_then
+        (only_if (λ v. satisfies basis.now.query.now v require.now))
+        (chain_vector basis.now.query.now (costs_of basis.now.rules.now) require.now chain.now
+        below.props))) (below.last + 1) }
 {
     let last = below.last;
     answer(chained(basis, require, chain, below.props), node, last)
@@ -95,7 +97,9 @@ pub fn targeted(
     node: u32,
 ) -> Result<Judged, NotDerived>
     requires { WellFormedQuery basis.now.query.now }
-    ensures { Tells result (vector_or node (only_if (is_target basis.now.query.now goal.now.tables goal.now.pushed) below.props)) (below.last + 1) }
+    ensures { Tells result (vector_or node (only_if
+        (is_target basis.now.query.now goal.now.tables goal.now.pushed) below.props))
+        (below.last + 1) }
 {
     let last = below.last;
     answer(only_of_goal(basis.query, goal, below.props), node, last)

@@ -31,9 +31,11 @@ fn root_require(query: &Query) -> Require
 
 // The cheaper of the two, the first where they cost the same.
 fn cheaper<'a>(best: Option<&'a Entry>, entry: &'a Entry) -> &'a Entry
-    ensures first { MatchOption (option_copied best.entry) (result.now ≡ entry.now) (λ b. (vector_of result.now).cost ≤ (vector_of b).cost) }
+    ensures first { MatchOption (option_copied best.entry) (result.now ≡ entry.now)
+        (λ b. (vector_of result.now).cost ≤ (vector_of b).cost) }
     ensures second { (vector_of result.now).cost ≤ (vector_of entry.now).cost }
-    ensures one { MatchOption (option_copied best.entry) (result.now ≡ entry.now) (λ b. (result.now ≡ b) ⊎ (result.now ≡ entry.now)) }
+    ensures one { MatchOption (option_copied best.entry) (result.now ≡ entry.now)
+        (λ b. (result.now ≡ b) ⊎ (result.now ≡ entry.now)) }
 {
     match best {
         Some(best) if best.node.props().cost <= entry.node.props().cost => best,
@@ -52,8 +54,8 @@ fn cheapest(plans: &PlanSet<Entry>) -> Option<&Entry>
     best
 }
 
-/// A plan of least cost of all that the query has, chosen from the set of its goal by Glue of what it requires; none where it has no
-/// plan.
+/// A plan of least cost of all that the query has, chosen from the set of its goal by Glue of what
+/// it requires; none where it has no plan.
 pub fn choose(
     alloc: Global,
     rules: &CheckedRules,

@@ -1,4 +1,5 @@
-//! The plan that is chosen for a query, and the vectors of its frontier in the order of their lines.
+//! The plan that is chosen for a query, and the vectors of its frontier in the order of their
+//! lines.
 #![tactic(auto)]
 
 mod choosing;

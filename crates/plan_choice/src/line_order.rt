@@ -6,7 +6,8 @@ ghost use Rattle.plan_choice.specs.LineOrder.{line_cmp};
 use star_model::plans::Props;
 use std::cmp::Ordering;
 
-// Compares the vectors of one goal by what their lines show: costs first, then the physical properties.
+// Compares the vectors of one goal by what their lines show: costs first, then the physical
+// properties.
 pub(crate) fn compare_lines(left: &Props, right: &Props) -> Ordering
     ensures { result ≡ line_cmp left.now right.now }
 {

@@ -52,10 +52,11 @@ fn as_list(alloc: Global, vectors: Vec<Props>) -> Result<List<Props>, AllocError
     Ok(list)
 }
 
-/// The vectors of the members in the order of their lines. If the set has what is best for a query's goal, they are those of the
-/// query's frontier, each once.
+/// The vectors of the members in the order of their lines. If the set has what is best for a
+/// query's goal, they are those of the query's frontier, each once.
 pub fn listed_frontier(alloc: Global, plans: &PlanSet<Entry>) -> Result<List<Props>, AllocError>
-    ensures { IfOk result (λ list. (q : query.Query) (rules : RuleFile) → IsBestOf q rules (query_goal q) plans.now → IsFrontierList q rules list) }
+    ensures { IfOk result (λ list. (q : query.Query) (rules : RuleFile)
+        → IsBestOf q rules (query_goal q) plans.now → IsFrontierList q rules list) }
 {
     let mut vectors = vectors_of(alloc, plans)?;
     vectors.sort_unstable_by(compare_lines);

@@ -12,7 +12,8 @@ use lolepop::Entry;
 use star_model::sets::QuantSet;
 use std::alloc::{AllocError, Global};
 
-/// Offers each member that meets the target, derived for its goal through the split. Where memory is wanting, some were offered.
+/// Offers each member that meets the target, derived for its goal through the split. Where memory
+/// is wanting, some were offered.
 pub fn add_goals(
     alloc: Global,
     target: &Target,
@@ -21,7 +22,8 @@ pub fn add_goals(
     out: &mut PlanSet<Entry>,
 ) -> Result<(), AllocError>
     ensures { OnOk result (Gathers is_better_plan out.old out.new
-        (From plans.now (λ i x. (meets_target target.now (vector_of i) ≡ true) × (x ≡ under_goal target.now.goal split i)))) }
+        (From plans.now (λ i x. (meets_target target.now (vector_of i) ≡ true)
+        × (x ≡ under_goal target.now.goal split i)))) }
 {
     for plan in plans.iter() {
         offer_goal(alloc, target, &split, plan, out)?;
@@ -37,7 +39,8 @@ fn offer_goal(
     out: &mut PlanSet<Entry>,
 ) -> Result<(), AllocError>
     ensures { OnOk result (Gathers is_better_plan out.old out.new
-        (λ x. (meets_target target.now (vector_of plan.now) ≡ true) × (x ≡ under_goal target.now.goal split.now plan.now))) }
+        (λ x. (meets_target target.now (vector_of plan.now) ≡ true)
+        × (x ≡ under_goal target.now.goal split.now plan.now))) }
 {
     let props = plan.props();
     if !target.is_met(props) {

@@ -1,5 +1,5 @@
-//! What operators, references and goals make of the members of sets of plans, offered to a set before any of it is made: a plan that the set
-//! covers already takes no memory.
+//! What operators, references and goals make of the members of sets of plans, offered to a set
+//! before any of it is made: a plan that the set covers already takes no memory.
 #![tactic(auto)]
 
 mod coverage;

@@ -1,4 +1,5 @@
-// What an operator makes of each member of a set. A plan is made only where no member covers its vector.
+// What an operator makes of each member of a set. A plan is made only where no member covers its
+// vector.
 
 ghost use Rattle.std.specs.Prelude.{◌≡◌, Some, IfOk, OnOk};
 ghost use Rattle.star_model.specs.Operators.{flavour_of};
@@ -22,7 +23,8 @@ pub fn leaf_plans(
     op: &Op,
 ) -> Result<PlanSet<Entry>, AllocError>
     requires { WellFormedQuery query.now }
-    ensures { IfOk result (IsFrontier is_better_plan (λ x. derived_leaf query.now costs.now (flavour_of op.now) op.now ≡ Some x)) }
+    ensures { IfOk result (IsFrontier is_better_plan
+        (λ x. derived_leaf query.now costs.now (flavour_of op.now) op.now ≡ Some x)) }
 {
     let mut out = PlanSet::new(alloc);
     offer_leaf(alloc, query, costs, op, &mut out)?;
@@ -39,7 +41,9 @@ pub fn unary_plans(
     inputs: &PlanSet<Entry>,
 ) -> Result<PlanSet<Entry>, AllocError>
     requires { WellFormedQuery query.now }
-    ensures { IfOk result (IsFrontier is_better_plan (From inputs.now (λ i x. derived_unary query.now costs.now (flavour_of op.now) op.now i ≡ Some x))) }
+    ensures { IfOk result (IsFrontier is_better_plan
+        (From inputs.now (λ i x. derived_unary query.now costs.now (flavour_of op.now) op.now i
+        ≡ Some x))) }
 {
     let mut out = PlanSet::new(alloc);
     for input in inputs.iter() {
@@ -60,7 +64,8 @@ pub fn binary_plans(
 ) -> Result<PlanSet<Entry>, AllocError>
     requires { WellFormedQuery query.now }
     ensures { IfOk result (IsFrontier is_better_plan
-        (From lefts.now (λ l. From rights.now (λ r x. derived_binary query.now costs.now (flavour_of op.now) op.now l r ≡ Some x)))) }
+        (From lefts.now (λ l. From rights.now
+        (λ r x. derived_binary query.now costs.now (flavour_of op.now) op.now l r ≡ Some x)))) }
 {
     let mut out = PlanSet::new(alloc);
     for left in lefts.iter() {
@@ -82,7 +87,8 @@ fn offer_beside(
 ) -> Result<(), AllocError>
     requires { WellFormedQuery query.now }
     ensures { OnOk result (Gathers is_better_plan out.old out.new
-        (From rights.now (λ r x. derived_binary query.now costs.now (flavour_of op.now) op.now left.now r ≡ Some x))) }
+        (From rights.now (λ r x. derived_binary query.now costs.now (flavour_of op.now) op.now
+        left.now r ≡ Some x))) }
 {
     for right in rights.iter() {
         offer_binary(alloc, query, costs, op, left, right, out)?;
@@ -98,7 +104,8 @@ fn offer_leaf(
     out: &mut PlanSet<Entry>,
 ) -> Result<(), AllocError>
     requires { WellFormedQuery query.now }
-    ensures { OnOk result (Gathers is_better_plan out.old out.new (λ x. derived_leaf query.now costs.now (flavour_of op.now) op.now ≡ Some x)) }
+    ensures { OnOk result (Gathers is_better_plan out.old out.new
+        (λ x. derived_leaf query.now costs.now (flavour_of op.now) op.now ≡ Some x)) }
 {
     let Some(props) = step(query, costs, op, &[]) else {
         return Ok(());
@@ -120,7 +127,8 @@ fn offer_unary(
     out: &mut PlanSet<Entry>,
 ) -> Result<(), AllocError>
     requires { WellFormedQuery query.now }
-    ensures { OnOk result (Gathers is_better_plan out.old out.new (λ x. derived_unary query.now costs.now (flavour_of op.now) op.now input.now ≡ Some x)) }
+    ensures { OnOk result (Gathers is_better_plan out.old out.new
+        (λ x. derived_unary query.now costs.now (flavour_of op.now) op.now input.now ≡ Some x)) }
 {
     let Some(props) = input.vector_under(query, costs, op) else {
         return Ok(());
@@ -144,7 +152,8 @@ fn offer_binary(
 ) -> Result<(), AllocError>
     requires { WellFormedQuery query.now }
     ensures { OnOk result (Gathers is_better_plan out.old out.new
-        (λ x. derived_binary query.now costs.now (flavour_of op.now) op.now left.now right.now ≡ Some x)) }
+        (λ x. derived_binary query.now costs.now (flavour_of op.now) op.now left.now right.now
+        ≡ Some x)) }
 {
     let Some(props) = left.vector_beside(query, costs, op, right) else {
         return Ok(());

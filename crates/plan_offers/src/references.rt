@@ -11,8 +11,8 @@ use star_model::derivations::ForAllValues;
 use star_model::lists::Name;
 use std::alloc::{AllocError, Global};
 
-/// Offers each member, derived through a reference to the alternative of the STAR with these for-all values. Where memory is wanting,
-/// some were offered.
+/// Offers each member, derived through a reference to the alternative of the STAR with these
+/// for-all values. Where memory is wanting, some were offered.
 pub fn add_references(
     alloc: Global,
     star: &Name,
@@ -21,7 +21,8 @@ pub fn add_references(
     plans: &PlanSet<Entry>,
     out: &mut PlanSet<Entry>,
 ) -> Result<(), AllocError>
-    ensures { OnOk result (Gathers is_better_plan out.old out.new (From plans.now (λ i x. x ≡ under_reference star.now number picked.now i))) }
+    ensures { OnOk result (Gathers is_better_plan out.old out.new
+        (From plans.now (λ i x. x ≡ under_reference star.now number picked.now i))) }
 {
     for plan in plans.iter() {
         offer_reference(alloc, star, number, picked, plan, out)?;
@@ -37,7 +38,8 @@ fn offer_reference(
     plan: &Entry,
     out: &mut PlanSet<Entry>,
 ) -> Result<(), AllocError>
-    ensures { OnOk result (Gathers is_better_plan out.old out.new (λ x. x ≡ under_reference star.now number picked.now plan.now)) }
+    ensures { OnOk result (Gathers is_better_plan out.old out.new
+        (λ x. x ≡ under_reference star.now number picked.now plan.now)) }
 {
     if is_covered(out, plan.props()) {
         return Ok(());

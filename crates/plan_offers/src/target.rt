@@ -19,7 +19,8 @@ pub struct Target {
 }
 
 impl Target {
-    /// The columns of the goal's quantifiers that the query names, and their own predicates with the pushed ones.
+    /// The columns of the goal's quantifiers that the query names, and their own predicates with
+    /// the pushed ones.
     pub fn of_goal(query: &Query, goal: Goal) -> Target
         requires { WellFormedQuery query.now }
         ensures { result ≡ target_of query.now goal }

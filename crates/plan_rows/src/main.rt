@@ -4,11 +4,11 @@
 //! derivation beside its plan.
 //!
 //! A line of the input names a table, as the library `row_tables` reads it, a catalogue, a query,
-//! and a rule file for the formulas and the selectivities. The texts have the operators of a plan between `; `, each
-//! behind its inputs: `ACCESS_HEAP {1} {}; ACCESS_HEAP {2} {1}; JOIN_NL {}` is a join of two
-//! accesses. Quantifiers, predicates and columns have numbers from 1, sites and indexes their
-//! names. An answer is `none` where the last operator isn't applicable. The answers come from an
-//! independent program, which shares nothing with this repository.
+//! and a rule file for the formulas and the selectivities. The texts have the operators of a plan
+//! between `; `, each behind its inputs: `ACCESS_HEAP {1} {}; ACCESS_HEAP {2} {1}; JOIN_NL {}` is a
+//! join of two accesses. Quantifiers, predicates and columns have numbers from 1, sites and indexes
+//! their names. An answer is `none` where the last operator isn't applicable. The answers come from
+//! an independent program, which shares nothing with this repository.
 #![tactic(auto)]
 
 mod counts;

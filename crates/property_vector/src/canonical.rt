@@ -2,6 +2,7 @@
 
 ghost use Rattle.std.specs.Prelude.{◌≡◌, ◌<◌, ◌≤◌, [], ◌∷◌, ◌++◌, length, fold, map, if◌then◌else◌};
 ghost use Rattle.std.specs.List.{cons_option, list_any};
+ghost use Rattle.star_model.specs.Limits.{most_in_order};
 ghost use Rattle.star_model.specs.Vectors.{same_column};
 ghost use Rattle.star_model.specs.Sets.{has};
 ghost use Rattle.star_model.specs.WellFormed.{WellFormedQuery};
@@ -44,7 +45,7 @@ impl ColPairs {
     }
 
     fn push(&mut self, pair: (Col, Col))
-        requires { length self.old < 16 }
+        requires { length self.old < most_in_order }
         ensures { self.new ≡ self.old ++ pair ∷ [] }
     {
         self.pairs.push(pair);
@@ -68,8 +69,9 @@ fn equality_within(tables: QuantSet, pred: &Pred) -> Option<(Col, Col)>
 }
 
 fn add_equality(found: &mut ColPairs, tables: QuantSet, pred: &Pred, is_member: bool)
-    requires { length found.old < 16 }
-    ensures { found.new ≡ found.old ++ (if is_member then cons_option (equality_within tables pred.now) [] else []) }
+    requires { length found.old < most_in_order }
+    ensures { found.new ≡ found.old ++ (if is_member then cons_option
+        (equality_within tables pred.now) [] else []) }
 {
     if is_member {
         if let Some(pair) = equality_within(tables, pred) {
@@ -83,7 +85,7 @@ fn add_equality(found: &mut ColPairs, tables: QuantSet, pred: &Pred, is_member: 
 fn equalities_within(query: &Query, preds: PredSet, tables: QuantSet) -> ColPairs
     requires { WellFormedQuery query.now }
     ensures equalities { result ≡ equalities_within query.now preds tables }
-    ensures few { length result ≤ 16 }
+    ensures few { length result ≤ most_in_order }
 {
     let mut found = ColPairs::new();
     for (n, pred) in query.preds.as_slice().iter().enumerate() {
@@ -125,7 +127,7 @@ fn after_merges(made: &[(Col, Col)], column: Col) -> Col
 }
 
 fn merges(pairs: &[(Col, Col)]) -> ColPairs
-    requires { length pairs.now ≤ 16 }
+    requires { length pairs.now ≤ most_in_order }
     ensures { result ≡ merges pairs.now }
 {
     let mut made = ColPairs::new();
@@ -138,8 +140,9 @@ fn merges(pairs: &[(Col, Col)]) -> ColPairs
 }
 
 fn add_new(list: &mut ColList, column: Col)
-    requires { length list.old < 16 }
-    ensures { list.new ≡ (if list_any (same_column column) list.old then list.old else list.old ++ column ∷ []) }
+    requires { length list.old < most_in_order }
+    ensures { list.new ≡ (if list_any (same_column column) list.old then list.old else list.old
+        ++ column ∷ []) }
 {
     if !list.has(column) {
         let pushed = list.try_push(column);
@@ -149,7 +152,7 @@ fn add_new(list: &mut ColList, column: Col)
 
 #[tactic(auto, using(crate::proofs::CanonWalks::canon_more, crate::proofs::CanonWalks::one_longer))]
 fn canon_of(made: &[(Col, Col)], columns: &[Col]) -> ColList
-    requires { length columns.now ≤ 16 }
+    requires { length columns.now ≤ most_in_order }
     ensures { result ≡ distinct (map (after_merges made.now) columns.now) }
 {
     let mut list = ColList::new();
@@ -159,8 +162,8 @@ fn canon_of(made: &[(Col, Col)], columns: &[Col]) -> ColList
     list
 }
 
-/// The list with the least column in place of each that the predicates make equal to it within the set's quantifiers, and without
-/// repeats. It takes no memory.
+/// The list with the least column in place of each that the predicates make equal to it within the
+/// set's quantifiers, and without repeats. It takes no memory.
 #[tactic(auto, unfolding(star_model::specs::Canon::canon, star_model::specs::Canon::least_equal))]
 pub fn canon(query: &Query, tables: QuantSet, preds: PredSet, list: &ColList) -> ColList
     requires { WellFormedQuery query.now }

@@ -23,8 +23,9 @@ fn is_no_worse(v: &Props, w: &Props) -> bool
         && (!w.temp || v.temp)
 }
 
-/// Whether a plan with the first vector may stand in place of one with the second: for the same rows at the same site it costs no more,
-/// at first and again, and has what the other has of order, path and temporary. It takes no memory.
+/// Whether a plan with the first vector may stand in place of one with the second: for the same
+/// rows at the same site it costs no more, at first and again, and has what the other has of order,
+/// path and temporary. It takes no memory.
 ///
 /// It is no total order: of two vectors often neither is better.
 #[tactic(auto, using(crate::proofs::CostsFirst::better_read))]

@@ -5,7 +5,8 @@ ghost use Rattle.std.specs.Prelude.{◌≡◌, Bool, true};
 use crate::order::better;
 use star_model::plans::Props;
 
-/// A value that may cover another of its type: be at least as good, so that the other needn't be kept.
+/// A value that may cover another of its type: be at least as good, so that the other needn't be
+/// kept.
 pub trait Ranked: Drop {
     /// Whether the first covers the second.
     ghost outranks: { Self → Self → Bool };

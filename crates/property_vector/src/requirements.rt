@@ -18,7 +18,8 @@ fn is_at(wanted: Option<Site>, site: Site) -> bool
     }
 }
 
-/// Whether the vector has the order, the site, the temporary and the path that are required. It takes no memory.
+/// Whether the vector has the order, the site, the temporary and the path that are required. It
+/// takes no memory.
 #[tactic(auto, unfolding(star_model::specs::Requirements::satisfies))]
 pub fn satisfies(query: &Query, v: &Props, require: &Require) -> bool
     requires { WellFormedQuery query.now }

@@ -1,6 +1,7 @@
 // The estimated number of rows.
 
 ghost use Rattle.std.specs.Prelude.{◌≡◌, ◌≤◌, length, ◌&&◌, nat_lt, option_copied};
+ghost use Rattle.star_model.specs.Limits.{most_predicates};
 ghost use Rattle.star_model.specs.Sets.{has};
 ghost use Rattle.star_model.specs.Cardinality.{card, table_of, rows_of, distinct_of, ends_at, preds_at};
 ghost use Rattle.star_model.specs.WellFormed.{WellFormedQuery};
@@ -11,7 +12,8 @@ use star_model::num::{Num, cap_div, cap_mul};
 use star_model::query::{Operand, Pred, Query};
 use star_model::sets::{PredSet, QuantSet};
 
-/// The estimated number of choices of one row for each quantifier of the set that make these predicates true.
+/// The estimated number of choices of one row for each quantifier of the set that make these
+/// predicates true.
 #[tactic(auto, using(crate::proofs::MemberWalks::member_rules), unfolding(star_model::specs::Cardinality::card))]
 pub fn card(query: &Query, tables: QuantSet, preds: PredSet) -> Num
     requires { WellFormedQuery query.now }
@@ -34,7 +36,7 @@ pub fn card(query: &Query, tables: QuantSet, preds: PredSet) -> Num
 
 // So many rows, after the predicates whose last quantifier in the set is this one.
 fn after_preds(query: &Query, tables: QuantSet, preds: PredSet, quant: u8, read: Num) -> Num
-    requires { length query.now.preds ≤ 16 }
+    requires { length query.now.preds ≤ most_predicates }
     ensures { result ≡ preds_at query.now tables preds quant read }
 {
     let mut rows = read;

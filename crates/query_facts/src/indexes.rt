@@ -1,6 +1,7 @@
 // The columns of indexes.
 
 ghost use Rattle.std.specs.Prelude.{◌≡◌, ◌≤◌, length, map};
+ghost use Rattle.star_model.specs.Limits.{most_in_order};
 ghost use Rattle.star_model.specs.Meaning.{is_index_of, is_index_on, index_columns};
 
 use crate::homes::only_member;
@@ -36,7 +37,7 @@ pub fn is_index_on(query: &Query, tables: QuantSet, index: u8) -> bool
 }
 
 fn columns_on(quant: u8, columns: &[u8]) -> ColList
-    requires { length columns.now ≤ 16 }
+    requires { length columns.now ≤ most_in_order }
     ensures { result ≡ map (λ c. record { quant = record { 0 = quant }; column = c }) columns.now }
 {
     let mut found = ColList::new();
@@ -50,8 +51,8 @@ fn columns_on(quant: u8, columns: &[u8]) -> ColList
     found
 }
 
-/// The columns of the index at this position, as columns of the one quantifier; none where there are more, or the index is on
-/// another table.
+/// The columns of the index at this position, as columns of the one quantifier; none where there
+/// are more, or the index is on another table.
 pub fn index_columns(query: &Query, tables: QuantSet, index: u8) -> ColList
     ensures { result ≡ index_columns query.now tables index }
 {

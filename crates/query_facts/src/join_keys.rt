@@ -3,6 +3,7 @@
 ghost use Rattle.std.specs.Prelude.{◌≡◌, ◌<◌, ◌++◌, length};
 ghost use Rattle.std.specs.Option.{option_to_list};
 ghost use Rattle.std.specs.List.{find};
+ghost use Rattle.star_model.specs.Limits.{most_in_order};
 ghost use Rattle.star_model.specs.Sets.{has};
 ghost use Rattle.star_model.specs.Predicates.{columns_of};
 ghost use Rattle.star_model.specs.Meaning.{keys_of};
@@ -32,8 +33,9 @@ fn key_of(tables: QuantSet, pred: &Pred) -> Option<Col>
 
 // Adds the key of the predicate, if it has one.
 fn add_key(found: &mut ColList, tables: QuantSet, pred: &Pred)
-    requires { length found.old < 16 }
-    ensures { found.new ≡ found.old ++ option_to_list (find (λ c. has tables c.quant.0) (columns_of pred.now)) }
+    requires { length found.old < most_in_order }
+    ensures { found.new ≡ found.old ++ option_to_list
+        (find (λ c. has tables c.quant.0) (columns_of pred.now)) }
 {
     if let Some(column) = key_of(tables, pred) {
         let pushed = found.try_push(column);

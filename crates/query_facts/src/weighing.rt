@@ -119,7 +119,8 @@ fn weigh_at(query: &mut Query, selects: &Selects, at: usize)
     }
 }
 
-/// Gives each predicate its selectivity: by the formulas of its class, or the usual one. It takes no memory.
+/// Gives each predicate its selectivity: by the formulas of its class, or the usual one. It takes
+/// no memory.
 #[tactic(auto, using(crate::proofs::WeighingWalks::weighing_rules))]
 pub fn weigh(query: &mut Query, selects: &Selects)
     ensures { query.new ≡ weighed selects.now query.old }

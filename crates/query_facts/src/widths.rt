@@ -2,6 +2,7 @@
 
 ghost use Rattle.std.specs.Prelude.{◌≡◌, ◌<◌, sum_by, slice_index, slice_get};
 ghost use Rattle.std.specs.Option.{option_map};
+ghost use Rattle.star_model.specs.Limits.{most_quantifiers};
 ghost use Rattle.star_model.specs.Numbers.{cut};
 ghost use Rattle.star_model.specs.Sets.{members};
 ghost use Rattle.star_model.specs.Operators.{width_at, width_of};
@@ -20,10 +21,11 @@ fn width_in(columns: &[ColumnDef], column: u8) -> Option<Num>
     columns.get(usize::from(column)).map(|found| found.width)
 }
 
-// The bytes of the set's columns of a quantifier whose table has these columns. The others have none.
+// The bytes of the set's columns of a quantifier whose table has these columns. The others have
+// none.
 #[tactic(auto, using(crate::proofs::WidthSums::column_rules))]
 fn columns_width(columns: &[ColumnDef], cols: &ColSet, quant: u8) -> Num
-    requires { quant < 12 }
+    requires { quant < most_quantifiers }
     ensures { result ≡ cut (sum_by (width_in columns.now) (members (slice_index cols.now quant))) }
 {
     let mut sum = Num::cut(0);
@@ -44,8 +46,10 @@ fn columns_width(columns: &[ColumnDef], cols: &ColSet, quant: u8) -> Num
 
 // The bytes of the set's columns of a quantifier.
 fn quantifier_width(query: &Query, cols: &ColSet, quant: u8) -> Num
-    requires { quant < 12 }
-    ensures { result ≡ cut (sum_by (λ c. width_at query.now (record { quant = record { 0 = quant }; column = c })) (members (slice_index cols.now quant))) }
+    requires { quant < most_quantifiers }
+    ensures { result ≡ cut (sum_by (λ c. width_at query.now
+        (record { quant = record { 0 = quant }; column = c }))
+        (members (slice_index cols.now quant))) }
 {
     match table_of(query, quant) {
         Some(table) => columns_width(table.columns.as_slice(), cols, quant),

@@ -1,6 +1,7 @@
 -- The faults that a query's text may have over a catalogue.
 use Rattle.std.specs.Prelude.{◌≡◌, ℕ, ◌<◌, ◌≤◌, ◌⊎◌, Bool, false, ◌&&◌, List, [], ◌∷◌, ◌++◌, length, map, Some, Result, Ok, Err}
 use Rattle.std.specs.List.{list_any, list_all, flat_map}
+use Rattle.star_model.specs.Limits.{greatest_integer, least_integer_size, most_in_order, most_predicates, most_quantifiers, most_selected}
 use Rattle.sb_text.specs.Refusal.{fault_of}
 use Rattle.sb_text.specs.declared.token.TextFault.TheVariants as token_fault
 use Rattle.star_model.specs.declared.catalogue.Catalogue.{Catalogue}
@@ -71,8 +72,8 @@ DefinesTwice q = differ same_numbers (quantifier_names q.items) ≡ false
 
 -- outside 64 bits with a sign
 abbrev pub IsGreat : Constant → Type 0
-IsGreat (Whole n) = 9223372036854775807 < n
-IsGreat (Negative n) = 9223372036854775808 < n
+IsGreat (Whole n) = greatest_integer < n
+IsGreat (Negative n) = least_integer_size < n
 IsGreat (Quoted bytes) = ⊥
 
 abbrev pub IsGreatSide : Side → Type 0
@@ -87,10 +88,10 @@ HasGreatConstant (p ∷ ps) = IsGreatSide p.right ⊎ HasGreatConstant ps
 abbrev pub Beyond : QueryStatement → LimitKind → Type 0
 Beyond q limit.Number = HasGreatConstant q.comparisons
 Beyond q limit.Name = HasLongWord (query_lexemes q)
-Beyond q limit.Quantifiers = 12 < length q.items
-Beyond q limit.Predicates = 16 < length q.comparisons
-Beyond q limit.Select = 64 < length q.select
-Beyond q limit.OrderBy = 16 < length q.order
+Beyond q limit.Quantifiers = most_quantifiers < length q.items
+Beyond q limit.Predicates = most_predicates < length q.comparisons
+Beyond q limit.Select = most_selected < length q.select
+Beyond q limit.OrderBy = most_in_order < length q.order
 Beyond q _ = ⊥
 
 -- ---- types

@@ -1,6 +1,7 @@
 -- The tests by which a statement is found to go beyond a limit.
 use Rattle.std.specs.Prelude.{ℕ, Bool, false, ◌||◌, nat_lt, List, length, Option, Some, None, if◌then◌else◌}
 use Rattle.std.specs.List.{list_any}
+use Rattle.star_model.specs.Limits.{greatest_integer, least_integer_size, most_in_order, most_name_bytes, most_predicates, most_quantifiers, most_selected}
 use Rattle.star_model.specs.declared.faults.LimitKind.{LimitKind}
 use Rattle.star_model.specs.declared.faults.LimitKind.TheVariants as limit
 use Rattle.query_graph.specs.declared.words.ColumnWords.{ColumnWords}
@@ -15,8 +16,8 @@ use Rattle.query_graph.specs.declared.words.QueryWords.{QueryWords}
 -- ---- constants
 
 abbrev pub is_great : ConstantWords → Bool
-is_great (constant.Whole n) = nat_lt 9223372036854775807 n
-is_great (constant.Negative n) = nat_lt 9223372036854775808 n
+is_great (constant.Whole n) = nat_lt greatest_integer n
+is_great (constant.Negative n) = nat_lt least_integer_size n
 is_great (constant.Quoted bytes) = false
 
 abbrev pub is_great_side : SideWords → Bool
@@ -26,7 +27,7 @@ is_great_side (side.Constant k) = is_great k
 -- ---- names
 
 abbrev pub is_long : List ℕ → Bool
-is_long name = nat_lt 64 (length name)
+is_long name = nat_lt most_name_bytes (length name)
 
 abbrev pub is_long_if_any : Option (List ℕ) → Bool
 is_long_if_any None = false
@@ -54,10 +55,10 @@ has_long_name q =
 
 abbrev pub first_count : QueryWords → Option LimitKind
 first_count q =
-    if nat_lt 12 (length q.items) then Some limit.Quantifiers
-    else if nat_lt 16 (length q.comparisons) then Some limit.Predicates
-    else if nat_lt 64 (length q.select) then Some limit.Select
-    else if nat_lt 16 (length q.order) then Some limit.OrderBy
+    if nat_lt most_quantifiers (length q.items) then Some limit.Quantifiers
+    else if nat_lt most_predicates (length q.comparisons) then Some limit.Predicates
+    else if nat_lt most_selected (length q.select) then Some limit.Select
+    else if nat_lt most_in_order (length q.order) then Some limit.OrderBy
     else None
 
 abbrev pub first_limit : QueryWords → Option LimitKind

@@ -50,7 +50,8 @@ pub fn column(alloc: Global, cursor: &mut Cursor<'_>) -> Result<ColumnWords, Unr
 /// Columns with commas between.
 #[tactic(auto, unfolding(crate::specs::StatementReading::columns_at))]
 pub fn columns(alloc: Global, cursor: &mut Cursor<'_>) -> Result<List<ColumnWords>, Unread>
-    ensures { Answers (λ columns. map said_column columns) (columns_at cursor.old) result cursor.new }
+    ensures { Answers (λ columns. map said_column columns) (columns_at cursor.old) result
+        cursor.new }
 {
     let mut columns = List::new(alloc);
     loop {

@@ -64,7 +64,8 @@ fn comparison(alloc: Global, cursor: &mut Cursor<'_>) -> Result<ComparisonWords,
 /// Comparisons with `and` between.
 #[tactic(auto, unfolding(crate::specs::StatementReading::comparisons_at))]
 pub fn comparisons(alloc: Global, cursor: &mut Cursor<'_>) -> Result<List<ComparisonWords>, Unread>
-    ensures { Answers (λ comparisons. map said_comparison comparisons) (comparisons_at cursor.old) result cursor.new }
+    ensures { Answers (λ comparisons. map said_comparison comparisons) (comparisons_at cursor.old)
+        result cursor.new }
 {
     let mut comparisons = List::new(alloc);
     loop {

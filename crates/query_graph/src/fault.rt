@@ -8,7 +8,8 @@ use sb_text::TextFault;
 use star_model::faults::LimitKind;
 use std::alloc::AllocError;
 
-/// Why a query is refused: the first of these, in this order. Statements and predicates are numbered from 1.
+/// Why a query is refused: the first of these, in this order. Statements and predicates are
+/// numbered from 1.
 #[derive(Clone, Copy, Debug, PartialEq, Eq)]
 pub enum QueryFault {
     /// No token begins at this byte, counted from 0.

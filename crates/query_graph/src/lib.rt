@@ -1,4 +1,5 @@
-//! Queries: what their texts say; and, from `query_facts`, the sets and counts of their parts that planning asks for.
+//! Queries: what their texts say; and, from `query_facts`, the sets and counts of their parts that
+//! planning asks for.
 #![tactic(auto)]
 
 mod columns;

@@ -82,7 +82,8 @@ fn finds_comparison(
     tables: &[TableDef],
     comparison: &ComparisonWords,
 ) -> bool
-    ensures { result ≡ finds_comparison quantifiers.now tables.now (said_comparison comparison.now) }
+    ensures { result ≡ finds_comparison quantifiers.now tables.now
+        (said_comparison comparison.now) }
 {
     finds_column(quantifiers, tables, &comparison.left)
         && finds_side(quantifiers, tables, &comparison.right)
@@ -93,7 +94,8 @@ fn finds_columns(
     tables: &[TableDef],
     columns: &[ColumnWords],
 ) -> bool
-    ensures { result ≡ list_all (finds_column quantifiers.now tables.now) (map said_column columns.now) }
+    ensures { result ≡ list_all (finds_column quantifiers.now tables.now)
+        (map said_column columns.now) }
 {
     columns
         .iter()
@@ -105,7 +107,8 @@ fn finds_comparisons(
     tables: &[TableDef],
     comparisons: &[ComparisonWords],
 ) -> bool
-    ensures { result ≡ list_all (finds_comparison quantifiers.now tables.now) (map said_comparison comparisons.now) }
+    ensures { result ≡ list_all (finds_comparison quantifiers.now tables.now)
+        (map said_comparison comparisons.now) }
 {
     comparisons.iter().all(|comparison| finds_comparison(quantifiers, tables, comparison))
 }
@@ -180,7 +183,8 @@ pub fn names_unknown(
 
 // Whether two of the items have one name.
 fn have_one_name(alloc: Global, items: &[ItemWords]) -> Result<bool, AllocError>
-    ensures { IfOk result (λ twice. twice ≡ not (differ same_numbers (quantifier_names (map said_item items.now)))) }
+    ensures { IfOk result (λ twice. twice ≡ not
+        (differ same_numbers (quantifier_names (map said_item items.now)))) }
 {
     let mut names = IndexSet::new(alloc);
     for item in items {

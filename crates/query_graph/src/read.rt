@@ -1,5 +1,7 @@
 // Reading a query over a catalogue.
 ghost use Rattle.std.specs.Prelude.{◌≡◌, ◌≤◌, ℕ, List, length, None, Some, IfOk};
+ghost use Rattle.sb_text.specs.Limits.{most_text_bytes};
+ghost use Rattle.star_model.specs.Limits.{most_predicates};
 ghost use Rattle.sb_text.specs.Refusal.{AreTokens, fault_of};
 ghost use Rattle.star_model.specs.declared.faults.LimitKind.{LimitKind};
 ghost use Rattle.star_model.specs.WellFormed.{WellFormedCatalogue};
@@ -27,7 +29,7 @@ fn meaning(alloc: Global, catalogue: &Catalogue, words: &QueryWords) -> Result<Q
     requires once { DefinesTwice (said words.now) → ⊥ }
     requires keeps { (what : LimitKind) → Beyond (said words.now) what → ⊥ }
     ensures means { IfOk result (λ query. query_of catalogue.now (said words.now) ≡ Some query) }
-    ensures few { IfOk result (λ query. length query.preds ≤ 16) }
+    ensures few { IfOk result (λ query. length query.preds ≤ most_predicates) }
 {
     match query_of(alloc, catalogue, words)? {
         Some(query) => Ok(query),
@@ -35,7 +37,8 @@ fn meaning(alloc: Global, catalogue: &Catalogue, words: &QueryWords) -> Result<Q
     }
 }
 
-// What is wrong with the names of the statement: it uses one that isn't defined, or else defines one twice.
+// What is wrong with the names of the statement: it uses one that isn't defined, or else defines
+// one twice.
 fn name_fault(
     alloc: Global,
     catalogue: &Catalogue,
@@ -55,7 +58,8 @@ fn name_fault(
 // The query that the statement means, or its first fault.
 fn judge(alloc: Global, catalogue: &Catalogue, words: &QueryWords) -> Result<Query, QueryFault>
     requires { WellFormedCatalogue catalogue.now }
-    ensures { (text : List ℕ) → fault_of text ≡ None → Says text (said words.now) → ReadsQuery catalogue.now text result }
+    ensures { (text : List ℕ) → fault_of text ≡ None → Says text (said words.now)
+        → ReadsQuery catalogue.now text result }
 {
     if let Some(fault) = name_fault(alloc, catalogue, words)? {
         return Err(fault);
@@ -87,10 +91,11 @@ fn read_tokens(
     }
 }
 
-/// The query that a text spells over a catalogue, with a copy of it; or the first fault of the text.
+/// The query that a text spells over a catalogue, with a copy of it; or the first fault of the
+/// text.
 pub fn read_query(alloc: Global, catalogue: &Catalogue, source: &[u8]) -> Result<Query, QueryFault>
     requires formed { WellFormedCatalogue catalogue.now }
-    requires size { length source.now ≤ 1048576 }
+    requires size { length source.now ≤ most_text_bytes }
     ensures { ReadsQuery catalogue.now source.now result }
 {
     let tokens = tokens(alloc, source)?;

@@ -1,5 +1,6 @@
 // What the names of a query's statement stand for, and the query that it means.
 ghost use Rattle.std.specs.Prelude.{◌≡◌, ◌≤◌, ◌<◌, length, map, IfOk, IfSome, Some, None, pos, neg_ℤ};
+ghost use Rattle.star_model.specs.Limits.{least_integer_size, most_in_order, most_quantifiers};
 ghost use Rattle.star_model.specs.WellFormed.{WellFormedCatalogue};
 ghost use Rattle.spelling.specs.Names.{all_of};
 ghost use Rattle.query_graph.specs.Queries.{quantifier_of, column_of, columns_of, operand_of, predicate_of, site_of, value_of, query_of};
@@ -43,7 +44,8 @@ fn quantifiers_of(
     items: &[ItemWords],
 ) -> Result<Option<List<QuantDef>>, AllocError>
     requires { WellFormedCatalogue catalogue.now }
-    ensures found { IfOk result (λ found. found ≡ all_of (map (quantifier_of catalogue.now) (map said_item items.now))) }
+    ensures found { IfOk result (λ found. found
+        ≡ all_of (map (quantifier_of catalogue.now) (map said_item items.now))) }
     ensures count { IfOk result (λ found. IfSome found (λ list. length list ≡ length items.now)) }
 {
     let mut quantifiers = List::new(alloc);
@@ -59,7 +61,7 @@ fn quantifiers_of(
 // The column. Of several quantifiers of one name the first counts.
 fn column_of(catalogue: &Catalogue, quantifiers: &[QuantDef], column: &ColumnWords) -> Option<Col>
     requires catalogue { WellFormedCatalogue catalogue.now }
-    requires few { length quantifiers.now ≤ 12 }
+    requires few { length quantifiers.now ≤ most_quantifiers }
     ensures { result ≡ column_of catalogue.now quantifiers.now (said_column column.now) }
 {
     let quant = quantifier_place(quantifiers, column.quantifier.as_slice())?;
@@ -82,8 +84,9 @@ fn columns_of(
     columns: &[ColumnWords],
 ) -> Result<Option<List<Col>>, AllocError>
     requires catalogue { WellFormedCatalogue catalogue.now }
-    requires few { length quantifiers.now ≤ 12 }
-    ensures { IfOk result (λ found. found ≡ columns_of catalogue.now quantifiers.now (map said_column columns.now)) }
+    requires few { length quantifiers.now ≤ most_quantifiers }
+    ensures { IfOk result (λ found. found ≡ columns_of catalogue.now quantifiers.now
+        (map said_column columns.now)) }
 {
     let mut found = List::new(alloc);
     for column in columns {
@@ -101,8 +104,8 @@ fn order_of(
     columns: &[ColumnWords],
 ) -> Option<ColList>
     requires catalogue { WellFormedCatalogue catalogue.now }
-    requires few { length quantifiers.now ≤ 12 }
-    requires short { length columns.now ≤ 16 }
+    requires few { length quantifiers.now ≤ most_quantifiers }
+    requires short { length columns.now ≤ most_in_order }
     ensures { result ≡ columns_of catalogue.now quantifiers.now (map said_column columns.now) }
 {
     let mut order = ColList::new();
@@ -115,7 +118,7 @@ fn order_of(
 
 // The number with a minus sign.
 fn negative(number: u64) -> i64
-    requires { number ≤ 9223372036854775808 }
+    requires { number ≤ least_integer_size }
     ensures { result ≡ neg_ℤ (pos number) }
 {
     (-i128::from(number)) as i64
@@ -139,9 +142,10 @@ fn operand_of(
     side: &SideWords,
 ) -> Result<Option<Operand>, AllocError>
     requires catalogue { WellFormedCatalogue catalogue.now }
-    requires few { length quantifiers.now ≤ 12 }
+    requires few { length quantifiers.now ≤ most_quantifiers }
     requires small { IsGreatSide (said_side side.now) → ⊥ }
-    ensures { IfOk result (λ found. found ≡ operand_of catalogue.now quantifiers.now (said_side side.now)) }
+    ensures { IfOk result (λ found. found ≡ operand_of catalogue.now quantifiers.now
+        (said_side side.now)) }
 {
     match side {
         SideWords::Column(column) => match column_of(catalogue, quantifiers, column) {
@@ -160,9 +164,10 @@ fn predicate_of(
     comparison: &ComparisonWords,
 ) -> Result<Option<Pred>, AllocError>
     requires catalogue { WellFormedCatalogue catalogue.now }
-    requires few { length quantifiers.now ≤ 12 }
+    requires few { length quantifiers.now ≤ most_quantifiers }
     requires small { IsGreatSide (said_side comparison.now.right) → ⊥ }
-    ensures { IfOk result (λ found. found ≡ predicate_of catalogue.now quantifiers.now (said_comparison comparison.now)) }
+    ensures { IfOk result (λ found. found ≡ predicate_of catalogue.now quantifiers.now
+        (said_comparison comparison.now)) }
 {
     let Some(left) = column_of(catalogue, quantifiers, &comparison.left) else {
         return Ok(None);
@@ -186,9 +191,10 @@ fn predicates_of(
     comparisons: &[ComparisonWords],
 ) -> Result<Option<List<Pred>>, AllocError>
     requires catalogue { WellFormedCatalogue catalogue.now }
-    requires few { length quantifiers.now ≤ 12 }
+    requires few { length quantifiers.now ≤ most_quantifiers }
     requires small { HasGreatConstant (map said_comparison comparisons.now) → ⊥ }
-    ensures { IfOk result (λ found. found ≡ all_of (map (predicate_of catalogue.now quantifiers.now) (map said_comparison comparisons.now))) }
+    ensures { IfOk result (λ found. found ≡ all_of
+        (map (predicate_of catalogue.now quantifiers.now) (map said_comparison comparisons.now))) }
 {
     let mut predicates = List::new(alloc);
     for comparison in comparisons {
@@ -214,7 +220,8 @@ fn site_of(catalogue: &Catalogue, site: &Option<Name>) -> Option<Option<Site>>
     }
 }
 
-/// The query that the statement means, each predicate with the usual selectivity; none where it names what isn't defined.
+/// The query that the statement means, each predicate with the usual selectivity; none where it
+/// names what isn't defined.
 #[tactic(auto, unfolding(crate::specs::Queries::query_of))]
 pub fn query_of(
     alloc: Global,

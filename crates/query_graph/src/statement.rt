@@ -20,7 +20,8 @@ use std::alloc::{AllocError, Global};
 // The comparisons, where there are any.
 #[tactic(auto, unfolding(crate::specs::StatementReading::where_at))]
 fn restriction(alloc: Global, cursor: &mut Cursor<'_>) -> Result<List<ComparisonWords>, Unread>
-    ensures { Answers (λ comparisons. map said_comparison comparisons) (where_at cursor.old) result cursor.new }
+    ensures { Answers (λ comparisons. map said_comparison comparisons) (where_at cursor.old) result
+        cursor.new }
 {
     if cursor.the_word(b"where").is_none() {
         return Ok(List::new(alloc));
@@ -76,7 +77,10 @@ fn query(alloc: Global, cursor: &mut Cursor<'_>) -> Result<QueryWords, Unread>
 #[tactic(auto, unfolding(crate::specs::StatementReading::statement_at))]
 fn understood(alloc: Global, source: &[u8], statement: &Statement<'_>) -> Result<QueryWords, Unread>
     requires { AreTokensOf source.now statement.now.tokens.now }
-    ensures { Understands (statement_at (lexemes_of source.now statement.now.tokens.now, statement.now.ended)) result }
+    ensures { Understands (statement_at (
+      lexemes_of source.now statement.now.tokens.now,
+      statement.now.ended,
+    )) result }
 {
     if !statement.ended {
         return Err(Unread::Strange);
@@ -90,15 +94,16 @@ fn understood(alloc: Global, source: &[u8], statement: &Statement<'_>) -> Result
     }
 }
 
-/// What a text says that is one query, or the number of its first statement that isn't understood: a first that is no query, or is
-/// missing, or a second.
+/// What a text says that is one query, or the number of its first statement that isn't understood:
+/// a first that is no query, or is missing, or a second.
 pub fn read_statement(
     alloc: Global,
     source: &[u8],
     tokens: &[Token],
 ) -> Result<Result<QueryWords, u32>, AllocError>
     requires { AreTokens source.now tokens.now }
-    ensures { IfOk result (λ read. MatchResult read (λ words. Says source.now (said words)) (IsStrangeQueryAt source.now)) }
+    ensures { IfOk result (λ read. MatchResult read (λ words. Says source.now (said words))
+        (IsStrangeQueryAt source.now)) }
 {
     let mut rest = statements(tokens);
     let Some(statement) = rest.next() else {

@@ -1,6 +1,7 @@
 // The types of what the predicates of a query compare.
 ghost use Rattle.std.specs.Prelude.{◌≡◌, ◌<◌, ◌≤◌, length, MatchOption, IfSome};
 ghost use Rattle.std.specs.List.{position_from};
+ghost use Rattle.star_model.specs.Limits.{most_predicates};
 ghost use Rattle.star_model.specs.WellFormed.{type_of, type_of_value, type_of_operand};
 ghost use Rattle.spelling.specs.Firsts.{FirstAt, NoneHas};
 ghost use Rattle.query_graph.specs.Faults.{HasTwoTypes};
@@ -72,8 +73,9 @@ fn clash_place(query: &Query, predicates: &[Pred]) -> Option<usize>
 
 /// The number, from 1, of the first predicate that compares two types.
 pub fn first_clash(query: &Query) -> Option<u32>
-    requires { length query.now.preds ≤ 16 }
-    ensures { MatchOption result (NoneHas (λ before p. HasTwoTypes query.now p) query.now.preds) (FirstAt (λ before p. HasTwoTypes query.now p) query.now.preds) }
+    requires { length query.now.preds ≤ most_predicates }
+    ensures { MatchOption result (NoneHas (λ before p. HasTwoTypes query.now p) query.now.preds)
+        (FirstAt (λ before p. HasTwoTypes query.now p) query.now.preds) }
 {
     let place = clash_place(query, query.preds.as_slice())?;
     Some(place as u32 + 1)

@@ -41,7 +41,8 @@ pub struct ComparisonWords {
     pub right: SideWords,
 }
 
-/// What the statement says. Nothing is known of the names but that those of tables, quantifiers and the site aren't reserved.
+/// What the statement says. Nothing is known of the names but that those of tables, quantifiers and
+/// the site aren't reserved.
 #[derive(Debug, Drop)]
 pub struct QueryWords {
     /// One or more.

@@ -1,4 +1,5 @@
-//! The rows of plans in code: environments, their values, the predicates that they make true, their orders, and searches among them.
+//! The rows of plans in code: environments, their values, the predicates that they make true, their
+//! orders, and searches among them.
 #![tactic(auto)]
 
 mod codes;

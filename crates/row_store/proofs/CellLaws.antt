@@ -1,11 +1,9 @@
 -- A value of the rows, by its row and its column.
-use Rattle.std.proofs.Common.{◌≡◌, ◌∙◌, sym, ap, refl, add-one, ℤ, Some, None, ℕ, ◌+◌, ◌-◌, ◌<◌, List, [], ◌∷◌, length, map, drop, get_or, slice_get, Option, ◌≤◌, arith, pos, true, false}
+use Rattle.std.proofs.Common.{◌≡◌, ◌∙◌, sym, ap, refl, add-one, ℤ, Some, None, ℕ, ◌+◌, ◌-◌, ◌<◌, List, [], ◌∷◌, length, map, drop, get_or, slice_get, Option, ◌≤◌, arith, pos}
 use Prim.Native.Nat.{zero, suc}
 use Rattle.std.specs.Prelude.{unwrap_or, option_map, All}
 use Rattle.star_model.specs.declared.catalogue.ColType.TheVariants as type
-use Rattle.std.specs.Option.{is_some, option_map_or}
-use Rattle.std.proofs.lemmas.Bool.{true≢false}
-use Rattle.row_store.specs.Reading.{has_value}
+use Rattle.std.specs.Option.{option_map_or}
 use Rattle.std.proofs.lemmas.List.{length-map, length-drop, get_or_past}
 use Rattle.star_model.specs.WellFormed.{type_of_value}
 use Rattle.star_model.specs.declared.catalogue.ColType.{ColType}
@@ -18,7 +16,7 @@ use Rattle.star_model.specs.declared.catalogue.Value.TheVariants as constant
 use Rattle.row_store.specs.declared.header.Column.{Column}
 use Rattle.row_store.specs.Loading.{column_value, rows_with}
 
-at_map : {A B : Type 0} (f : A → B) (xs : List A) (n : ℕ) (d : A) (e : B) → n < length xs → get_or (map f xs) n e ≡ f (get_or xs n d)
+pub at_map : {A B : Type 0} (f : A → B) (xs : List A) (n : ℕ) (d : A) (e : B) → n < length xs → get_or (map f xs) n e ≡ f (get_or xs n d)
 at_map f [] n d e within = absurd (omega arith)
 at_map f (x ∷ xs) zero d e within = refl
 at_map f (x ∷ xs) (suc n) d e within = at_map f xs n d e (omega arith)
@@ -68,15 +66,6 @@ pub integer_value : (fields : Record) (column : Column) → column.kind ≡ type
     → constant.Int n ≡ unwrap_or (column_value fields column) (constant.Int (pos 0))
 integer_value fields column kind n is =
     ap (λ o. unwrap_or (option_map (λ m. constant.Int m) o) (constant.Int (pos 0))) is ∙ ap (λ k. unwrap_or (value_in k (field_at fields column.place)) (constant.Int (pos 0))) (sym kind)
-
--- a column of integers with a value has an integer
-pub no_integer : (fields : Record) (columns : List Column) (n : ℕ) (column : Column) → n < length columns → column ≡ get_or columns n column
-    → All (λ column. has_value fields column ≡ true) columns → column.kind ≡ type.Int → integer_in (field_at fields column.place) ≡ None → ⊥
-no_integer fields columns n column within is values kind none =
-    let value : is_some (value_in column.kind (field_at fields column.place)) ≡ true = ap (has_value fields) is ∙ values n column within in
-    let no_value : is_some (value_in column.kind (field_at fields column.place)) ≡ false =
-    ap (λ k. is_some (value_in k (field_at fields column.place))) kind ∙ ap (λ o. is_some (option_map (λ m. constant.Int m) o)) none in
-    true≢false (sym value ∙ no_value)
 
 pub text_value : (fields : Record) (column : Column) → column.kind ≡ type.Text → constant.Text (field_at fields column.place) ≡ unwrap_or (column_value fields column) (constant.Int (pos 0))
 text_value fields column kind = ap (λ k. unwrap_or (value_in k (field_at fields column.place)) (constant.Int (pos 0))) (sym kind)

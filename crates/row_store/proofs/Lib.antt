@@ -10,6 +10,7 @@ mod RowFaults
 mod HeaderColumns
 mod FirstFaults
 mod RowsFirst
+mod KeptNumbers
 mod Loaded
 mod OneFault
 mod RowsRead

@@ -20,7 +20,7 @@ stands_once header column = nat_eq (count_by (same_numbers column.name) header) 
 abbrev pub lacks_value : Record → Record → ColumnDef → Bool
 lacks_value header fields column = option_map_or (λ place. is_none (value_in column.kind (field_at fields place))) (place_in header column.name) false
 
--- the row of this number: the rows are the records behind the header, from 1
+-- the row of this number: the rows are the records after the header, from 1
 pub record IsRow (records : List Record) (row : ℕ) (fields : Record) : Type 0 where
   pub behind_header : 0 < row
   pub is : slice_get records row ≡ Some fields

@@ -1,6 +1,7 @@
 -- The first fault of the rows, read record by record.
 use Rattle.std.specs.Prelude.{ℕ, ◌+◌, Bool, nat_eq, nat_le, List, [], ◌∷◌, length, Option, Some, None, option_map, if◌then◌else◌}
 use Rattle.std.specs.Option.{is_some, option_or}
+use Rattle.star_model.specs.Limits.{most_rows}
 use Rattle.star_model.specs.Data.{Record, field_at, value_in}
 use Rattle.row_store.specs.declared.header.Column.{Column}
 use Rattle.row_store.specs.declared.fault.TableFault.{TableFault}
@@ -23,4 +24,4 @@ row_fault columns count row fields = if nat_eq (length fields) count then option
 abbrev pub rows_fault : List Column → ℕ → ℕ → List Record → Option TableFault
 rows_fault columns count before [] = None
 rows_fault columns count before (fields ∷ rows) =
-    if nat_le 200000 before then Some TooManyRows else option_or (row_fault columns count (before + 1) fields) (rows_fault columns count (before + 1) rows)
+    if nat_le most_rows before then Some TooManyRows else option_or (row_fault columns count (before + 1) fields) (rows_fault columns count (before + 1) rows)

@@ -9,11 +9,12 @@ use std::alloc::AllocError;
 pub enum TableFault {
     /// There is no header, or a column of the catalogue doesn't stand exactly once in it.
     BadHeader,
-    /// There are more than 200,000 records behind the header.
+    /// There are more than 200,000 records after the header.
     TooManyRows,
     /// The row of this number, from 1, has another count of fields than the header.
     BadRow(u32),
-    /// The row of this number has no integer in this column. Both are from 1, and the column is by the catalogue's order.
+    /// The row of this number has no integer in this column. Both are from 1, and the column is by
+    /// the catalogue's order.
     BadField(u32, u8),
     /// There is no memory.
     Memory,

@@ -78,9 +78,12 @@ pub fn columns_of(
     raw: &RawTable,
 ) -> Result<Option<Vec<Column>>, AllocError>
     requires { 0 < length raw.now }
-    ensures columns { IfOk result (λ found. option_map (λ columns. columns.items) found ≡ columns_in (header_of (record_at raw.now 0)) definition.now) }
-    ensures in_range { IfOk result (λ found. IfSome found (λ columns. All (λ column. column.place < length (record_at raw.now 0)) columns.items)) }
-    ensures count { IfOk result (λ found. IfSome found (λ columns. length columns.items ≡ length definition.now.columns)) }
+    ensures columns { IfOk result (λ found. option_map (λ columns. columns.items) found
+        ≡ columns_in (header_of (record_at raw.now 0)) definition.now) }
+    ensures in_range { IfOk result (λ found. IfSome found
+        (λ columns. All (λ column. column.place < length (record_at raw.now 0)) columns.items)) }
+    ensures count { IfOk result (λ found. IfSome found
+        (λ columns. length columns.items ≡ length definition.now.columns)) }
 {
     let mut columns = Vec::new(alloc);
     for column in definition.columns.as_slice() {

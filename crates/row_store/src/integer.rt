@@ -1,5 +1,6 @@
 // The integer that a field spells.
 ghost use Rattle.std.specs.Prelude.{◌≡◌, ◌≤◌, reverse, option_and_then};
+ghost use Rattle.star_model.specs.Limits.{least_integer_size};
 ghost use Rattle.star_model.specs.Data.{without_leading_spaces, without_spaces, digits_spell, at_most, signed_spell, integer_in};
 
 // The bytes behind the spaces at the front.
@@ -28,7 +29,7 @@ fn trim_end(bytes: &[u8]) -> &[u8]
 
 // The number that one or more digits spell, if it isn't above the bound.
 fn number_of(digits: &[u8], bound: u64) -> Option<u64>
-    requires { bound ≤ 9223372036854775808 }
+    requires { bound ≤ least_integer_size }
     ensures { result ≡ option_and_then (at_most bound) (digits_spell digits.now) }
 {
     if digits.is_empty() {
@@ -60,7 +61,8 @@ fn signed_number_of(bytes: &[u8]) -> Option<i64>
     }
 }
 
-/// The integer that a field spells: spaces, a sign or none, digits, spaces. None where it spells none, or none of 64 bits.
+/// The integer that a field spells: spaces, a sign or none, digits, spaces. None where it spells
+/// none, or none of 64 bits.
 pub fn integer_of(field: &[u8]) -> Option<i64>
     ensures { result ≡ integer_in field.now }
 {

@@ -6,6 +6,7 @@ mod header;
 mod index;
 mod integer;
 mod loading;
+mod numbers;
 mod rows;
 mod table;
 pub mod theorems;

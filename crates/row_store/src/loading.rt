@@ -9,8 +9,8 @@ use sb_outside::RawTable;
 use star_model::catalogue::Catalogue;
 use std::alloc::Global;
 
-/// The rows that these records hold for a table of the catalogue. The first record is the header, with the names of the columns in
-/// any order and maybe further ones.
+/// The rows that these records hold for a table of the catalogue. The first record is the header,
+/// with the names of the columns in any order and maybe further ones.
 ///
 /// On a refusal the records are dropped.
 pub fn load(

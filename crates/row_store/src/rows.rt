@@ -1,6 +1,7 @@
 // The first fault of a table's rows.
 ghost use Rattle.std.specs.Prelude.{◌≡◌, ◌<◌, ◌≤◌, length, drop, All};
 ghost use Rattle.std.specs.Option.{is_some};
+ghost use Rattle.star_model.specs.Limits.{most_columns, most_rows};
 ghost use Rattle.sb_outside.specs.Records.{record_at};
 ghost use Rattle.star_model.specs.Data.{value_in};
 ghost use Rattle.row_store.specs.Reading.{bad_column, row_fault, rows_fault};
@@ -27,8 +28,9 @@ fn is_value(kind: ColType, field: &[u8]) -> bool
 // The number, from 1, of the first column without a value in this record.
 fn bad_column(raw: &RawTable, columns: &[Column], record_no: usize) -> Option<u8>
     requires record { record_no < length raw.now }
-    requires few { length columns.now ≤ 32 }
-    requires in_range { All (λ column. column.place < length (record_at raw.now record_no)) columns.now }
+    requires few { length columns.now ≤ most_columns }
+    requires in_range { All (λ column. column.place < length (record_at raw.now record_no))
+        columns.now }
     ensures { result ≡ bad_column (record_at raw.now record_no) 0 columns.now }
 {
     for (index, column) in columns.iter().enumerate() {
@@ -42,10 +44,11 @@ fn bad_column(raw: &RawTable, columns: &[Column], record_no: usize) -> Option<u8
 // The first fault of the row that is the record of this number.
 fn row_fault(raw: &RawTable, columns: &[Column], row: usize) -> Option<TableFault>
     requires record { row < length raw.now }
-    requires few_rows { row ≤ 200000 }
-    requires few { length columns.now ≤ 32 }
+    requires few_rows { row ≤ most_rows }
+    requires few { length columns.now ≤ most_columns }
     requires in_range { All (λ column. column.place < length (record_at raw.now 0)) columns.now }
-    ensures { result ≡ row_fault columns.now (length (record_at raw.now 0)) row (record_at raw.now row) }
+    ensures { result ≡ row_fault columns.now (length (record_at raw.now 0)) row
+        (record_at raw.now row) }
 {
     if raw.fields(row) == raw.fields(0) {
         let column = bad_column(raw, columns, row)?;
@@ -55,10 +58,10 @@ fn row_fault(raw: &RawTable, columns: &[Column], row: usize) -> Option<TableFaul
     }
 }
 
-/// The first fault of the rows: the records behind the header.
+/// The first fault of the rows: the records after the header.
 pub fn rows_fault(raw: &RawTable, columns: &[Column]) -> Option<TableFault>
     requires header { 0 < length raw.now }
-    requires few { length columns.now ≤ 32 }
+    requires few { length columns.now ≤ most_columns }
     requires in_range { All (λ column. column.place < length (record_at raw.now 0)) columns.now }
     ensures { result ≡ rows_fault columns.now (length (record_at raw.now 0)) 0 (drop 1 raw.now) }
 {

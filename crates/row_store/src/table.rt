@@ -1,6 +1,7 @@
 // Tables: the rows of their records.
 ghost use Rattle.std.specs.Prelude.{◌≡◌, ◌<◌, ◌≤◌, [], length, slice_index_or, IfOk};
 ghost use Rattle.std.specs.List.{range_with_len};
+ghost use Rattle.star_model.specs.Limits.{most_columns, most_rows};
 ghost use Rattle.row_store.specs.Loading.{Opens};
 ghost use Rattle.row_store.specs.Cells.{value_of_cell};
 ghost use Rattle.row_store.specs.Indexes.{value_at};
@@ -8,7 +9,7 @@ ghost use Rattle.row_store.specs.Comparing.{HaveTypes};
 
 use crate::fault::TableFault;
 use crate::header::{Column, columns_of};
-use crate::integer::integer_of;
+use crate::numbers::numbers_of;
 use crate::rows::rows_fault;
 use sb_outside::RawTable;
 use star_model::catalogue::{ColType, TableDef};
@@ -17,11 +18,14 @@ use std::marker::Model;
 
 /// The rows of a table. Each has a value for each column, by the catalogue's order.
 ///
-/// A table is its records with the places of its columns, so it takes no more memory than they do.
+/// A table is its records with the places of its columns and its integers, which are parsed once:
+/// beside the records it takes eight bytes for each integer.
 #[derive(Drop)]
 pub struct Table {
     raw: RawTable,
     columns: Vec<Column>,
+    // The integers of each column, row by row; of a column of texts none.
+    numbers: Vec<Vec<i64>>,
 }
 
 impl Model for Table {
@@ -51,7 +55,7 @@ impl Table {
         definition: &TableDef,
         raw: RawTable,
     ) -> Result<Table, TableFault>
-        requires { length definition.now.columns ≤ 32 }
+        requires { length definition.now.columns ≤ most_columns }
         ensures { Opens definition.now raw result }
     {
         if raw.len() == 0 {
@@ -60,16 +64,21 @@ impl Table {
         let Some(columns) = columns_of(alloc, definition, &raw)? else {
             return Err(TableFault::BadHeader);
         };
-        match rows_fault(&raw, columns.as_slice()) {
-            Some(fault) => Err(fault),
-            None => Ok(Table { raw, columns }),
+        if let Some(fault) = rows_fault(&raw, columns.as_slice()) {
+            return Err(fault);
         }
+        let numbers = numbers_of(alloc, &raw, columns.as_slice())?;
+        Ok(Table {
+            raw,
+            columns,
+            numbers,
+        })
     }
 
     /// How many rows there are: at most 200,000. Of the values in a column all have one type.
     pub fn rows(&self) -> u32
         ensures count { result ≡ length self.now }
-        ensures few { result ≤ 200000 }
+        ensures few { result ≤ most_rows }
         ensures types { HaveTypes self.now }
     {
         (self.raw.len() - 1) as u32
@@ -81,16 +90,11 @@ impl Table {
         requires column_in_range { column < length (slice_index_or self.now row []) }
         ensures { value_of_cell result ≡ value_at self.now row column }
     {
-        let column = self.columns[column as usize];
-        let field = self.raw.field(row as usize + 1, column.place);
+        let column_no = column as usize;
+        let column = self.columns[column_no];
         match column.kind {
-            ColType::Int => {
-                let Some(number) = integer_of(field) else {
-                    unreachable!()
-                };
-                Cell::Int(number)
-            }
-            ColType::Text => Cell::Text(field),
+            ColType::Int => Cell::Int(self.numbers[column_no][row as usize]),
+            ColType::Text => Cell::Text(self.raw.field(row as usize + 1, column.place)),
         }
     }
 
@@ -107,7 +111,8 @@ impl Table {
 
     /// The numbers of the rows, from 0. Of the values in a column all have one type.
     pub(crate) fn row_numbers(&self, alloc: Global) -> Result<Vec<u32>, AllocError>
-        ensures numbers { IfOk result (λ numbers. numbers.items ≡ range_with_len 0 (length self.now)) }
+        ensures numbers { IfOk result (λ numbers. numbers.items
+            ≡ range_with_len 0 (length self.now)) }
         ensures types { HaveTypes self.now }
     {
         let count = self.raw.len() - 1;

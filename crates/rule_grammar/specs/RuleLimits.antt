@@ -1,6 +1,7 @@
 -- What a rule file's text says, statement by statement, and the limits that its statements keep.
 use Rattle.std.specs.Prelude.{◌≡◌, ℕ, ◌+◌, ◌<◌, ◌≤◌, ◌⊎◌, [], ◌∷◌, Bool, true, false, List, length, map, Contains}
 use Rattle.std.specs.List.{count_by}
+use Rattle.star_model.specs.Limits.{most_alternatives, most_nesting, most_nodes, most_parameters, most_ranges, most_stars}
 use Rattle.star_model.specs.Monotone.{nodes}
 use Rattle.star_model.specs.declared.rules.Alternative.{Alternative}
 use Rattle.star_model.specs.declared.rules.StarDef.{StarDef}
@@ -76,13 +77,13 @@ count_of_stars statements = count_by is_star statements
 -- Behind so many STARs: this is the 65th or a later one, it has over 8 parameters, over 16 alternatives, one with over 2 for-all
 -- clauses, or one whose body nests over 8 deep; or the formula, or one of a selectivity's two, has over 256 nodes.
 abbrev pub DefinesBeyond : ℕ → Definition → LimitKind → Type 0
-DefinesBeyond stars (OfStar s) limit.Params = 8 < length s.params
-DefinesBeyond stars (OfStar s) limit.Alternatives = 16 < length s.alternatives
-DefinesBeyond stars (OfStar s) limit.ForAlls = HasAlternative (λ a. 2 < length a.ranges) s
-DefinesBeyond stars (OfStar s) limit.Stars = 64 ≤ stars
-DefinesBeyond stars (OfStar s) limit.Depth = HasAlternative (λ a. 8 < nesting a.body) s
-DefinesBeyond stars (OfFormula d) limit.Formula = 256 < length (nodes d.formula)
-DefinesBeyond stars (OfSelect d) limit.Formula = (256 < length (nodes d.num)) ⊎ (256 < length (nodes d.den))
+DefinesBeyond stars (OfStar s) limit.Params = most_parameters < length s.params
+DefinesBeyond stars (OfStar s) limit.Alternatives = most_alternatives < length s.alternatives
+DefinesBeyond stars (OfStar s) limit.ForAlls = HasAlternative (λ a. most_ranges < length a.ranges) s
+DefinesBeyond stars (OfStar s) limit.Stars = most_stars ≤ stars
+DefinesBeyond stars (OfStar s) limit.Depth = HasAlternative (λ a. most_nesting < nesting a.body) s
+DefinesBeyond stars (OfFormula d) limit.Formula = most_nodes < length (nodes d.formula)
+DefinesBeyond stars (OfSelect d) limit.Formula = (most_nodes < length (nodes d.num)) ⊎ (most_nodes < length (nodes d.den))
 DefinesBeyond stars _ _ = ⊥
 
 -- behind these statements; or a number is over the greatest, or a word over 64 bytes

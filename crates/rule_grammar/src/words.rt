@@ -1,6 +1,7 @@
 // What words stand for in rules.
 
-/// What a word stands for at the front of a value of the rule language. `Other` stands for a name, or begins no value.
+/// What a word stands for at the front of a value of the rule language. `Other` stands for a name,
+/// or begins no value.
 #[derive(Clone, Copy, Debug)]
 pub enum ValueHead {
     Constant(ConstantHead),

@@ -32,7 +32,8 @@ fn print_both(
     first: &Condition,
     second: &Condition,
 ) -> Result<(), AllocError>
-    ensures { OnOk result (out.new ≡ puts out.old (call word.now (condition_lexemes first.now ∷ condition_lexemes second.now ∷ []))) }
+    ensures { OnOk result (out.new ≡ puts out.old
+        (call word.now (condition_lexemes first.now ∷ condition_lexemes second.now ∷ []))) }
 {
     out.word(word)?;
     out.symbol(b"(")?;

@@ -40,7 +40,8 @@ fn push_selects<'a>(
     all: &mut Vec<Statement<'a>>,
     selects: &'a [SelectDef],
 ) -> Result<(), AllocError>
-    ensures { OnOk result (map definition_of all.new.items ≡ map definition_of all.old.items ++ map OfSelect selects.now) }
+    ensures { OnOk result (map definition_of all.new.items
+        ≡ map definition_of all.old.items ++ map OfSelect selects.now) }
 {
     for select in selects {
         all.push(Statement::Select(select))?;
@@ -52,7 +53,8 @@ fn push_formulas<'a>(
     all: &mut Vec<Statement<'a>>,
     formulas: &'a [FormulaDef],
 ) -> Result<(), AllocError>
-    ensures { OnOk result (map definition_of all.new.items ≡ map definition_of all.old.items ++ map OfFormula formulas.now) }
+    ensures { OnOk result (map definition_of all.new.items
+        ≡ map definition_of all.old.items ++ map OfFormula formulas.now) }
 {
     for formula in formulas {
         all.push(Statement::Formula(formula))?;
@@ -61,7 +63,8 @@ fn push_formulas<'a>(
 }
 
 fn push_stars<'a>(all: &mut Vec<Statement<'a>>, stars: &'a [StarDef]) -> Result<(), AllocError>
-    ensures { OnOk result (map definition_of all.new.items ≡ map definition_of all.old.items ++ map OfStar stars.now) }
+    ensures { OnOk result (map definition_of all.new.items
+        ≡ map definition_of all.old.items ++ map OfStar stars.now) }
 {
     for star in stars {
         all.push(Statement::Star(star))?;
@@ -72,7 +75,8 @@ fn push_stars<'a>(all: &mut Vec<Statement<'a>>, stars: &'a [StarDef]) -> Result<
 // The statements that define something, by their numbers.
 fn statements_in_order(alloc: Global, rules: &RuleFile) -> Result<Vec<Statement<'_>>, AllocError>
     requires { differ nat_eq (statement_numbers rules.now) ≡ true }
-    ensures { IfOk result (λ all. map definition_of all.items ≡ definitions rules.now.selects rules.now.formulas rules.now.stars) }
+    ensures { IfOk result (λ all. map definition_of all.items
+        ≡ definitions rules.now.selects rules.now.formulas rules.now.stars) }
 {
     let mut all = Vec::new(alloc);
     push_selects(&mut all, rules.selects.as_slice())?;
@@ -85,7 +89,8 @@ fn statements_in_order(alloc: Global, rules: &RuleFile) -> Result<Vec<Statement<
 // The two formulas of a selectivity.
 #[tactic(auto, using(spelling::proofs::Laws::writing))]
 fn print_num_and_den(out: &mut Writer, select: &SelectDef) -> Result<(), AllocError>
-    ensures { OnOk result (out.new ≡ puts out.old (formula_lexemes select.now.num ++ Word (codes "per") ∷ formula_lexemes select.now.den)) }
+    ensures { OnOk result (out.new ≡ puts out.old
+        (formula_lexemes select.now.num ++ Word (codes "per") ∷ formula_lexemes select.now.den)) }
 {
     write_formula(out, &select.num)?;
     out.word(b"per")?;
@@ -145,8 +150,8 @@ fn print_statements(out: &mut Writer, statements: &[Statement<'_>]) -> Result<()
     Ok(())
 }
 
-/// The text that spells the rule file, in canonical layout: its statements in the order of their numbers, each on a line of its own, and
-/// before them the one that says version 2.
+/// The text that spells the rule file, in canonical layout: its statements in the order of their
+/// numbers, each on a line of its own, and before them the one that says version 2.
 ///
 /// Two statements of one number have no order, so the numbers have to differ.
 pub fn print_rules(alloc: Global, rules: &RuleFile) -> Result<Vec<u8>, AllocError>

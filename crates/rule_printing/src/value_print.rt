@@ -25,7 +25,8 @@ pub fn print_unary(out: &mut Writer, word: &[u8], value: &ValueExpr) -> Result<(
 #[cycle(value_print)]
 #[tactic(auto, using(spelling::proofs::Laws::writing))]
 fn print_pair(out: &mut Writer, first: &ValueExpr, second: &ValueExpr) -> Result<(), AllocError>
-    ensures { OnOk result (out.new ≡ puts out.old (value_lexemes first.now ++ comma ∷ value_lexemes second.now)) }
+    ensures { OnOk result (out.new ≡ puts out.old
+        (value_lexemes first.now ++ comma ∷ value_lexemes second.now)) }
 {
     print_value(out, first)?;
     out.symbol(b",")?;
@@ -41,7 +42,8 @@ pub fn print_binary(
     first: &ValueExpr,
     second: &ValueExpr,
 ) -> Result<(), AllocError>
-    ensures { OnOk result (out.new ≡ puts out.old (call word.now (value_lexemes first.now ∷ value_lexemes second.now ∷ []))) }
+    ensures { OnOk result (out.new ≡ puts out.old
+        (call word.now (value_lexemes first.now ∷ value_lexemes second.now ∷ []))) }
 {
     out.word(word)?;
     out.symbol(b"(")?;
@@ -59,7 +61,9 @@ fn print_ternary(
     second: &ValueExpr,
     third: &ValueExpr,
 ) -> Result<(), AllocError>
-    ensures { OnOk result (out.new ≡ puts out.old (call word.now (value_lexemes first.now ∷ value_lexemes second.now ∷ value_lexemes third.now ∷ []))) }
+    ensures { OnOk result (out.new ≡ puts out.old
+        (call word.now (value_lexemes first.now ∷ value_lexemes second.now ∷ value_lexemes third.now
+        ∷ []))) }
 {
     out.word(word)?;
     out.symbol(b"(")?;
@@ -78,7 +82,8 @@ fn print_required(
     word: &[u8],
     value: &ValueExpr,
 ) -> Result<(), AllocError>
-    ensures { OnOk result (out.new ≡ puts out.old (value_lexemes stream.now ++ in_squares (Word word.now ∷ value_lexemes value.now))) }
+    ensures { OnOk result (out.new ≡ puts out.old
+        (value_lexemes stream.now ++ in_squares (Word word.now ∷ value_lexemes value.now))) }
 {
     print_value(out, stream)?;
     out.symbol(b"[")?;
@@ -87,7 +92,8 @@ fn print_required(
     out.symbol(b"]")
 }
 
-/// Writes a value within a statement. Where it answers an error, memory was wanting, and the text is of no use.
+/// Writes a value within a statement. Where it answers an error, memory was wanting, and the text
+/// is of no use.
 ///
 /// The recursion goes as deep as the value nests.
 #[cycle(value_print)]

@@ -66,7 +66,8 @@ fn alternative(
     cursor: &mut Cursor<'_>,
     depth: usize,
 ) -> Result<Alternative, Unread>
-    ensures { Answers (alternative_at (names_of version params.now) depth cursor.old) result cursor.new }
+    ensures { Answers (alternative_at (names_of version params.now) depth cursor.old) result
+        cursor.new }
 {
     let ranges = ranges(alloc, version, params, cursor, depth)?;
     let scope = Scope::new(version, params, ranges.as_slice());
@@ -88,7 +89,8 @@ pub fn alternatives(
     cursor: &mut Cursor<'_>,
     depth: usize,
 ) -> Result<List<Alternative>, Unread>
-    ensures { Answers (alternatives_at (names_of version params.now) depth cursor.old) result cursor.new }
+    ensures { Answers (alternatives_at (names_of version params.now) depth cursor.old) result
+        cursor.new }
 {
     let mut alternatives = List::new(alloc);
     loop {

@@ -66,7 +66,8 @@ pub fn own_arguments(
     depth: usize,
     flavour: Flavour,
 ) -> Result<List<ValueExpr>, Unread>
-    ensures { Answers (own_arguments_at (value_at scope.now depth) flavour cursor.old) result cursor.new }
+    ensures { Answers (own_arguments_at (value_at scope.now depth) flavour cursor.old) result
+        cursor.new }
 {
     let arguments = arguments(alloc, scope, cursor, depth)?;
     cursor.the_symbol(b")").ok_or(Unread::Strange)?;
@@ -82,7 +83,8 @@ pub fn more_arguments(
     depth: usize,
     flavour: Flavour,
 ) -> Result<List<ValueExpr>, Unread>
-    ensures { Answers (more_arguments_at (value_at scope.now depth) flavour cursor.old) result cursor.new }
+    ensures { Answers (more_arguments_at (value_at scope.now depth) flavour cursor.old) result
+        cursor.new }
 {
     if arguments_of(flavour) == 0 {
         cursor.the_symbol(b")").ok_or(Unread::Strange)?;

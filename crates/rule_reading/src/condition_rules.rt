@@ -15,7 +15,8 @@ use sqlite_items::Boxed;
 use star_model::rules::{Condition, ValueExpr};
 use std::alloc::Global;
 
-/// The rules take the reader of the conditions inside a condition as a parameter, so that each is proved by itself.
+/// The rules take the reader of the conditions inside a condition as a parameter, so that each is
+/// proved by itself.
 #[derive(Clone, Copy)]
 pub struct ConditionRules<'a, F> {
     pub alloc: Global,
@@ -31,15 +32,18 @@ impl<
 > ConditionRules<'a, F> {
     fn inner(&self, cursor: &mut Cursor<'_>) -> Result<Condition, Unread>
         requires { NestsConditions self.now.depth (F.pre self.now.inner) (F.post self.now.inner) }
-        ensures { Answers (condition_at self.now.scope.now self.now.depth cursor.old) result cursor.new }
+        ensures { Answers (condition_at self.now.scope.now self.now.depth cursor.old) result
+            cursor.new }
     {
         (self.inner)(self.alloc, self.scope, cursor, self.depth)
     }
 
-    // A condition in a box of its own. It is boxed as soon as it is read: a function that boxes two has too large a proof.
+    // A condition in a box of its own. It is boxed as soon as it is read: a function that boxes two
+    // has too large a proof.
     fn boxed(&self, cursor: &mut Cursor<'_>) -> Result<Boxed<Condition>, Unread>
         requires { NestsConditions self.now.depth (F.pre self.now.inner) (F.post self.now.inner) }
-        ensures { Answers (condition_at self.now.scope.now self.now.depth cursor.old) result cursor.new }
+        ensures { Answers (condition_at self.now.scope.now self.now.depth cursor.old) result
+            cursor.new }
     {
         let condition = self.inner(cursor)?;
         Ok(Boxed::new(self.alloc, condition)?)
@@ -49,7 +53,8 @@ impl<
     #[tactic(auto, unfolding(rule_grammar::specs::ValueReading::one_at))]
     fn one(&self, cursor: &mut Cursor<'_>) -> Result<Boxed<Condition>, Unread>
         requires { NestsConditions self.now.depth (F.pre self.now.inner) (F.post self.now.inner) }
-        ensures { Answers (one_at (condition_at self.now.scope.now self.now.depth) cursor.old) result cursor.new }
+        ensures { Answers (one_at (condition_at self.now.scope.now self.now.depth) cursor.old)
+            result cursor.new }
     {
         cursor.the_symbol(b"(").ok_or(Unread::Strange)?;
         let condition = self.boxed(cursor)?;
@@ -64,7 +69,8 @@ impl<
         cursor: &mut Cursor<'_>,
     ) -> Result<(Boxed<Condition>, Boxed<Condition>), Unread>
         requires { NestsConditions self.now.depth (F.pre self.now.inner) (F.post self.now.inner) }
-        ensures { Answers (last_two_at (condition_at self.now.scope.now self.now.depth) cursor.old) result cursor.new }
+        ensures { Answers (last_two_at (condition_at self.now.scope.now self.now.depth) cursor.old)
+            result cursor.new }
     {
         let first = self.boxed(cursor)?;
         cursor.the_symbol(b",").ok_or(Unread::Strange)?;
@@ -77,7 +83,8 @@ impl<
     #[tactic(auto, unfolding(rule_grammar::specs::ValueReading::two_at))]
     fn two(&self, cursor: &mut Cursor<'_>) -> Result<(Boxed<Condition>, Boxed<Condition>), Unread>
         requires { NestsConditions self.now.depth (F.pre self.now.inner) (F.post self.now.inner) }
-        ensures { Answers (two_at (condition_at self.now.scope.now self.now.depth) cursor.old) result cursor.new }
+        ensures { Answers (two_at (condition_at self.now.scope.now self.now.depth) cursor.old)
+            result cursor.new }
     {
         cursor.the_symbol(b"(").ok_or(Unread::Strange)?;
         self.last_two(cursor)
@@ -85,7 +92,8 @@ impl<
 
     // One value in brackets.
     fn one_value(&self, cursor: &mut Cursor<'_>) -> Result<Boxed<ValueExpr>, Unread>
-        ensures { Answers (one_at (value_at self.now.scope.now self.now.depth) cursor.old) result cursor.new }
+        ensures { Answers (one_at (value_at self.now.scope.now self.now.depth) cursor.old) result
+            cursor.new }
     {
         ValueRules {
             alloc: self.alloc,
@@ -101,7 +109,8 @@ impl<
         &self,
         cursor: &mut Cursor<'_>,
     ) -> Result<(Boxed<ValueExpr>, Boxed<ValueExpr>), Unread>
-        ensures { Answers (two_at (value_at self.now.scope.now self.now.depth) cursor.old) result cursor.new }
+        ensures { Answers (two_at (value_at self.now.scope.now self.now.depth) cursor.old) result
+            cursor.new }
     {
         ValueRules {
             alloc: self.alloc,
@@ -114,7 +123,9 @@ impl<
 
     // A test of one value, behind its word.
     fn on_one(&self, cursor: &mut Cursor<'_>, test: UnaryTest) -> Result<Condition, Unread>
-        ensures { Answers (conditional self.now.scope.now self.now.depth (condition_at self.now.scope.now self.now.depth) (ConditionHead.Unary test) cursor.old) result cursor.new }
+        ensures { Answers (conditional self.now.scope.now self.now.depth
+            (condition_at self.now.scope.now self.now.depth) (ConditionHead.Unary test) cursor.old)
+            result cursor.new }
     {
         let v = self.one_value(cursor)?;
         Ok(unary(test, v.into_inner()))
@@ -122,7 +133,9 @@ impl<
 
     // A test of two values, behind its word.
     fn on_two(&self, cursor: &mut Cursor<'_>, test: BinaryTest) -> Result<Condition, Unread>
-        ensures { Answers (conditional self.now.scope.now self.now.depth (condition_at self.now.scope.now self.now.depth) (ConditionHead.Binary test) cursor.old) result cursor.new }
+        ensures { Answers (conditional self.now.scope.now self.now.depth
+            (condition_at self.now.scope.now self.now.depth) (ConditionHead.Binary test) cursor.old)
+            result cursor.new }
     {
         let (v, w) = self.two_values(cursor)?;
         Ok(binary(test, v.into_inner(), w.into_inner()))
@@ -131,7 +144,9 @@ impl<
     // What is negated, behind `not`.
     fn negated(&self, cursor: &mut Cursor<'_>) -> Result<Condition, Unread>
         requires { NestsConditions self.now.depth (F.pre self.now.inner) (F.post self.now.inner) }
-        ensures { Answers (conditional self.now.scope.now self.now.depth (condition_at self.now.scope.now self.now.depth) ConditionHead.Not cursor.old) result cursor.new }
+        ensures { Answers (conditional self.now.scope.now self.now.depth
+            (condition_at self.now.scope.now self.now.depth) ConditionHead.Not cursor.old) result
+            cursor.new }
     {
         let c = self.one(cursor)?;
         Ok(negation(c))
@@ -140,7 +155,9 @@ impl<
     // Two conditions that a word joins, behind it.
     fn joined(&self, cursor: &mut Cursor<'_>, junction: Junction) -> Result<Condition, Unread>
         requires { NestsConditions self.now.depth (F.pre self.now.inner) (F.post self.now.inner) }
-        ensures { Answers (conditional self.now.scope.now self.now.depth (condition_at self.now.scope.now self.now.depth) (ConditionHead.Junction junction) cursor.old) result cursor.new }
+        ensures { Answers (conditional self.now.scope.now self.now.depth
+            (condition_at self.now.scope.now self.now.depth) (ConditionHead.Junction junction)
+            cursor.old) result cursor.new }
     {
         let (c, d) = self.two(cursor)?;
         Ok(join(junction, c, d))
@@ -150,7 +167,8 @@ impl<
     #[tactic(auto, unfolding(rule_grammar::specs::ConditionReading::condition_by))]
     pub fn condition(&self, cursor: &mut Cursor<'_>) -> Result<Condition, Unread>
         requires { NestsConditions self.now.depth (F.pre self.now.inner) (F.post self.now.inner) }
-        ensures { Answers (condition_by self.now.scope.now self.now.depth (condition_at self.now.scope.now self.now.depth) cursor.old) result cursor.new }
+        ensures { Answers (condition_by self.now.scope.now self.now.depth
+            (condition_at self.now.scope.now self.now.depth) cursor.old) result cursor.new }
     {
         let word = cursor.word().ok_or(Unread::Strange)?;
         match condition_head(word) {

@@ -8,9 +8,11 @@ use spelling::{Cursor, Unread};
 use star_model::rules::Condition;
 use std::alloc::Global;
 
-/// The condition at the front of the lexemes, where at most `depth` values and conditions are open inside one another.
+/// The condition at the front of the lexemes, where at most `depth` values and conditions are open
+/// inside one another.
 ///
-/// Conditions are read by recursion. The tokens of one statement that `sb_text::tokens` gave nest brackets at most 32 deep.
+/// Conditions are read by recursion. The tokens of one statement that `sb_text::tokens` gave nest
+/// brackets at most 32 deep.
 pub fn condition(
     alloc: Global,
     scope: &Scope<'_>,

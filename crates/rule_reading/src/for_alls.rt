@@ -26,7 +26,8 @@ fn for_all(
     Ok(ForAll { name, range })
 }
 
-/// The for-all clauses of an alternative. The range of each sees the parameters, and the names of those before it.
+/// The for-all clauses of an alternative. The range of each sees the parameters, and the names of
+/// those before it.
 #[tactic(auto, unfolding(rule_grammar::specs::StarReading::ranges_at))]
 pub fn ranges(
     alloc: Global,

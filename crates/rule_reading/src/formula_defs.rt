@@ -39,8 +39,8 @@ fn head(version: u8, cursor: &mut Cursor<'_>) -> Option<(Which, Flavour)>
     Some((which, flavour))
 }
 
-/// The formula that the statement with this number defines in a rule file of this version, from its tokens, or `None` where it defines
-/// none.
+/// The formula that the statement with this number defines in a rule file of this version, from its
+/// tokens, or `None` where it defines none.
 pub fn read_formula_def(
     alloc: Global,
     source: &[u8],
@@ -49,8 +49,11 @@ pub fn read_formula_def(
     version: u8,
 ) -> Result<Option<FormulaDef>, AllocError>
     requires { AreTokensOf source.now tokens.now }
-    ensures some { IfOk result (λ o. IfSome o (λ d. SpellsFormulaDef version number (lexemes_of source.now tokens.now) d)) }
-    ensures none { IfOk result (λ o. IfNone o ((d : FormulaDef) → SpellsFormulaDef version number (lexemes_of source.now tokens.now) d → ⊥)) }
+    ensures some { IfOk result (λ o. IfSome o
+        (λ d. SpellsFormulaDef version number (lexemes_of source.now tokens.now) d)) }
+    ensures none { IfOk result (λ o. IfNone o
+        ((d : FormulaDef) → SpellsFormulaDef version number (lexemes_of source.now tokens.now) d
+        → ⊥)) }
 {
     let [_, _, _, behind @ ..] = tokens else {
         return Ok(None);

@@ -20,7 +20,8 @@ pub fn reference(
     depth: usize,
     word: &[u8],
 ) -> Result<PlanExpr, Unread>
-    ensures { Answers (reference_at (value_at scope.now depth) word.now cursor.old) result cursor.new }
+    ensures { Answers (reference_at (value_at scope.now depth) word.now cursor.old) result
+        cursor.new }
 {
     cursor.the_symbol(b"(").ok_or(Unread::Strange)?;
     let args = arguments(alloc, scope, cursor, depth)?;

@@ -1,4 +1,5 @@
-//! Reading the statements of rule files: formulas, selectivities, and STARs with the values, conditions and plans in them.
+//! Reading the statements of rule files: formulas, selectivities, and STARs with the values,
+//! conditions and plans in them.
 #![tactic(auto)]
 
 mod alternatives;

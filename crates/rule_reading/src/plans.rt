@@ -16,7 +16,8 @@ use star_model::flavours::flavour_in;
 use star_model::rules::{Flavour, PlanExpr};
 use std::alloc::Global;
 
-/// The rules take the reader of the plans inside a plan as a parameter, so that each is proved by itself.
+/// The rules take the reader of the plans inside a plan as a parameter, so that each is proved by
+/// itself.
 #[derive(Clone, Copy)]
 pub struct PlanRules<'a, 's, F> {
     pub alloc: Global,
@@ -51,7 +52,8 @@ impl<F: Fn(Global, &Scope<'_>, &mut Cursor<'_>, usize) -> Result<PlanExpr, Unrea
     #[tactic(auto, unfolding(rule_grammar::specs::PlanReading::unary_at))]
     fn unary(&self, cursor: &mut Cursor<'_>, flavour: Flavour) -> Result<PlanExpr, Unread>
         requires { NestsPlans self.now.depth (F.pre self.now.inner) (F.post self.now.inner) }
-        ensures { Answers (unary_at (value_at self.now.scope.now self.now.depth) (plan_at self.now.scope.now self.now.depth) flavour cursor.old) result cursor.new }
+        ensures { Answers (unary_at (value_at self.now.scope.now self.now.depth)
+            (plan_at self.now.scope.now self.now.depth) flavour cursor.old) result cursor.new }
     {
         cursor.the_symbol(b"(").ok_or(Unread::Strange)?;
         let input = self.boxed(cursor)?;
@@ -62,7 +64,8 @@ impl<F: Fn(Global, &Scope<'_>, &mut Cursor<'_>, usize) -> Result<PlanExpr, Unrea
     #[tactic(auto, unfolding(rule_grammar::specs::PlanReading::inputs_at))]
     fn inputs(&self, cursor: &mut Cursor<'_>) -> Result<(Boxed<PlanExpr>, Boxed<PlanExpr>), Unread>
         requires { NestsPlans self.now.depth (F.pre self.now.inner) (F.post self.now.inner) }
-        ensures { Answers (inputs_at (value_at self.now.scope.now self.now.depth) (plan_at self.now.scope.now self.now.depth) cursor.old) result cursor.new }
+        ensures { Answers (inputs_at (value_at self.now.scope.now self.now.depth)
+            (plan_at self.now.scope.now self.now.depth) cursor.old) result cursor.new }
     {
         let left = self.boxed(cursor)?;
         cursor.the_symbol(b",").ok_or(Unread::Strange)?;
@@ -78,7 +81,9 @@ impl<F: Fn(Global, &Scope<'_>, &mut Cursor<'_>, usize) -> Result<PlanExpr, Unrea
         flavour: Flavour,
         inputs: (Boxed<PlanExpr>, Boxed<PlanExpr>),
     ) -> Result<PlanExpr, Unread>
-        ensures { Answers (joined_at (value_at self.now.scope.now self.now.depth) (plan_at self.now.scope.now self.now.depth) flavour inputs cursor.old) result cursor.new }
+        ensures { Answers (joined_at (value_at self.now.scope.now self.now.depth)
+            (plan_at self.now.scope.now self.now.depth) flavour inputs cursor.old) result
+            cursor.new }
     {
         let args = more_arguments(self.alloc, self.scope, cursor, self.depth, flavour)?;
         Ok(binary_plan(flavour, args, inputs.0, inputs.1))
@@ -87,7 +92,8 @@ impl<F: Fn(Global, &Scope<'_>, &mut Cursor<'_>, usize) -> Result<PlanExpr, Unrea
     #[tactic(auto, unfolding(rule_grammar::specs::PlanReading::binary_at))]
     fn binary(&self, cursor: &mut Cursor<'_>, flavour: Flavour) -> Result<PlanExpr, Unread>
         requires { NestsPlans self.now.depth (F.pre self.now.inner) (F.post self.now.inner) }
-        ensures { Answers (binary_at (value_at self.now.scope.now self.now.depth) (plan_at self.now.scope.now self.now.depth) flavour cursor.old) result cursor.new }
+        ensures { Answers (binary_at (value_at self.now.scope.now self.now.depth)
+            (plan_at self.now.scope.now self.now.depth) flavour cursor.old) result cursor.new }
     {
         cursor.the_symbol(b"(").ok_or(Unread::Strange)?;
         let inputs = self.inputs(cursor)?;
@@ -97,7 +103,9 @@ impl<F: Fn(Global, &Scope<'_>, &mut Cursor<'_>, usize) -> Result<PlanExpr, Unrea
     // What stands behind the name of an operator.
     fn operator(&self, cursor: &mut Cursor<'_>, flavour: Flavour) -> Result<PlanExpr, Unread>
         requires { NestsPlans self.now.depth (F.pre self.now.inner) (F.post self.now.inner) }
-        ensures { Answers (operator_at (value_at self.now.scope.now self.now.depth) (plan_at self.now.scope.now self.now.depth) flavour (inputs_of flavour) cursor.old) result cursor.new }
+        ensures { Answers (operator_at (value_at self.now.scope.now self.now.depth)
+            (plan_at self.now.scope.now self.now.depth) flavour (inputs_of flavour) cursor.old)
+            result cursor.new }
     {
         match flavour {
             Flavour::AccessHeap | Flavour::AccessIndex => {
@@ -114,7 +122,9 @@ impl<F: Fn(Global, &Scope<'_>, &mut Cursor<'_>, usize) -> Result<PlanExpr, Unrea
     #[tactic(auto, unfolding(rule_grammar::specs::PlanReading::plan_by))]
     fn plan(&self, cursor: &mut Cursor<'_>) -> Result<PlanExpr, Unread>
         requires { NestsPlans self.now.depth (F.pre self.now.inner) (F.post self.now.inner) }
-        ensures { Answers (plan_by (value_at self.now.scope.now self.now.depth) (plan_at self.now.scope.now self.now.depth) self.now.scope.now.version cursor.old) result cursor.new }
+        ensures { Answers (plan_by (value_at self.now.scope.now self.now.depth)
+            (plan_at self.now.scope.now self.now.depth) self.now.scope.now.version cursor.old)
+            result cursor.new }
     {
         let word = cursor.word().ok_or(Unread::Strange)?;
         if let Some(flavour) = flavour_in(self.scope.version(), word) {
@@ -130,7 +140,8 @@ impl<F: Fn(Global, &Scope<'_>, &mut Cursor<'_>, usize) -> Result<PlanExpr, Unrea
     }
 }
 
-/// A plan over the names of the scope, where at most `depth` plans and values are open inside one another.
+/// A plan over the names of the scope, where at most `depth` plans and values are open inside one
+/// another.
 pub fn plan(
     alloc: Global,
     scope: &Scope<'_>,

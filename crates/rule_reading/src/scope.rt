@@ -7,8 +7,8 @@ ghost use Rattle.rule_grammar.specs.StarReading.{names_of, with_ranges};
 use star_model::rules::{ForAll, Param};
 use std::marker::Model;
 
-/// The names that may be used in a part of a rule: the STAR's parameters, and behind them the names of for-all clauses. And the version
-/// of the rule file.
+/// The names that may be used in a part of a rule: the STAR's parameters, and behind them the names
+/// of for-all clauses. And the version of the rule file.
 #[derive(Drop)]
 pub struct Scope<'a> {
     version: u8,

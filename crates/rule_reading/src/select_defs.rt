@@ -57,8 +57,13 @@ fn place_of_per(source: &[u8], tokens: &[Token]) -> usize
 // The tokens before the first `per`, and those behind it.
 fn parted_at_per<'a>(source: &[u8], tokens: &'a [Token]) -> Option<(&'a [Token], &'a [Token])>
     requires { AreTokensOf source.now tokens.now }
-    ensures parts { option_map (λ parts. (lexemes_of source.now parts.0.now, lexemes_of source.now parts.1.now)) result ≡ parted_at_per (lexemes_of source.now tokens.now) }
-    ensures tokens { IfSome result (λ parts. AreTokensOf source.now parts.0.now × AreTokensOf source.now parts.1.now) }
+    ensures parts { option_map (λ parts. (
+      lexemes_of source.now parts.0.now,
+      lexemes_of source.now
+          parts.1.now,
+    )) result ≡ parted_at_per (lexemes_of source.now tokens.now) }
+    ensures tokens { IfSome result (λ parts. AreTokensOf source.now parts.0.now
+        × AreTokensOf source.now parts.1.now) }
 {
     let (num, behind) = tokens.split_at(place_of_per(source, tokens));
     let [_, den @ ..] = behind else {
@@ -67,8 +72,8 @@ fn parted_at_per<'a>(source: &[u8], tokens: &'a [Token]) -> Option<(&'a [Token],
     Some((num, den))
 }
 
-/// The selectivity that the statement with this number defines in a rule file of version 2, from its tokens, or `None` where it defines
-/// none.
+/// The selectivity that the statement with this number defines in a rule file of version 2, from
+/// its tokens, or `None` where it defines none.
 pub fn read_select_def(
     alloc: Global,
     source: &[u8],
@@ -76,8 +81,10 @@ pub fn read_select_def(
     number: u32,
 ) -> Result<Option<SelectDef>, AllocError>
     requires { AreTokensOf source.now tokens.now }
-    ensures some { IfOk result (λ o. IfSome o (λ d. SpellsSelectDef 2 number (lexemes_of source.now tokens.now) d)) }
-    ensures none { IfOk result (λ o. IfNone o ((d : SelectDef) → SpellsSelectDef 2 number (lexemes_of source.now tokens.now) d → ⊥)) }
+    ensures some { IfOk result (λ o. IfSome o
+        (λ d. SpellsSelectDef 2 number (lexemes_of source.now tokens.now) d)) }
+    ensures none { IfOk result (λ o. IfNone o
+        ((d : SelectDef) → SpellsSelectDef 2 number (lexemes_of source.now tokens.now) d → ⊥)) }
 {
     let [_, _, _, behind @ ..] = tokens else {
         return Ok(None);

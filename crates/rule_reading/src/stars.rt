@@ -75,10 +75,12 @@ fn star(
     })
 }
 
-/// The STAR that these tokens of the source define in a rule file of this version, which are all of the statement with this number;
+/// The STAR that these tokens of the source define in a rule file of this version, which are all of
+/// the statement with this number;
 /// `None` where they define none.
 ///
-/// The recursion goes as deep as brackets nest: at most 32 in the tokens that `sb_text::tokens` gives.
+/// The recursion goes as deep as brackets nest: at most 32 in the tokens that `sb_text::tokens`
+/// gives.
 #[tactic(auto, unfolding(rule_grammar::specs::StarReading::star_of))]
 pub fn read_star(
     alloc: Global,
@@ -88,7 +90,8 @@ pub fn read_star(
     version: u8,
 ) -> Result<Option<StarDef>, AllocError>
     requires { AreTokensOf source.now tokens.now }
-    ensures { IfOk result (λ read. read ≡ star_of version number (lexemes_of source.now tokens.now)) }
+    ensures { IfOk result (λ read. read ≡ star_of version number
+        (lexemes_of source.now tokens.now)) }
 {
     let mut cursor = Cursor::new(source, tokens);
     match star(alloc, version, &mut cursor, number, tokens.len() + 1) {

@@ -14,7 +14,8 @@ use star_model::lists::Name;
 use star_model::rules::ValueExpr;
 use std::alloc::Global;
 
-/// The rules take the reader of the values inside a value as a parameter, so that each is proved by itself.
+/// The rules take the reader of the values inside a value as a parameter, so that each is proved by
+/// itself.
 #[derive(Clone, Copy)]
 pub struct ValueRules<'a, F> {
     pub alloc: Global,
@@ -30,16 +31,18 @@ impl<'a, F: Fn(Global, &Scope<'_>, &mut Cursor<'_>, usize) -> Result<ValueExpr, 
 > {
     fn inner(&self, cursor: &mut Cursor<'_>) -> Result<ValueExpr, Unread>
         requires { NestsValues self.now.depth (F.pre self.now.inner) (F.post self.now.inner) }
-        ensures { Answers (value_at self.now.scope.now self.now.depth cursor.old) result cursor.new }
+        ensures { Answers (value_at self.now.scope.now self.now.depth cursor.old) result
+            cursor.new }
     {
         (self.inner)(self.alloc, self.scope, cursor, self.depth)
     }
 
-    // A value in a box of its own. It is boxed as soon as it is read: a function that holds a value, and may fail, has too large a
-    // proof.
+    // A value in a box of its own. It is boxed as soon as it is read: a function that holds a
+    // value, and may fail, has too large a proof.
     fn boxed(&self, cursor: &mut Cursor<'_>) -> Result<Boxed<ValueExpr>, Unread>
         requires { NestsValues self.now.depth (F.pre self.now.inner) (F.post self.now.inner) }
-        ensures { Answers (value_at self.now.scope.now self.now.depth cursor.old) result cursor.new }
+        ensures { Answers (value_at self.now.scope.now self.now.depth cursor.old) result
+            cursor.new }
     {
         let value = self.inner(cursor)?;
         Ok(Boxed::new(self.alloc, value)?)
@@ -49,7 +52,8 @@ impl<'a, F: Fn(Global, &Scope<'_>, &mut Cursor<'_>, usize) -> Result<ValueExpr, 
     #[tactic(auto, unfolding(rule_grammar::specs::ValueReading::one_at))]
     pub fn one(&self, cursor: &mut Cursor<'_>) -> Result<Boxed<ValueExpr>, Unread>
         requires { NestsValues self.now.depth (F.pre self.now.inner) (F.post self.now.inner) }
-        ensures { Answers (one_at (value_at self.now.scope.now self.now.depth) cursor.old) result cursor.new }
+        ensures { Answers (one_at (value_at self.now.scope.now self.now.depth) cursor.old) result
+            cursor.new }
     {
         cursor.the_symbol(b"(").ok_or(Unread::Strange)?;
         let value = self.boxed(cursor)?;
@@ -64,7 +68,8 @@ impl<'a, F: Fn(Global, &Scope<'_>, &mut Cursor<'_>, usize) -> Result<ValueExpr, 
         cursor: &mut Cursor<'_>,
     ) -> Result<(Boxed<ValueExpr>, Boxed<ValueExpr>), Unread>
         requires { NestsValues self.now.depth (F.pre self.now.inner) (F.post self.now.inner) }
-        ensures { Answers (last_two_at (value_at self.now.scope.now self.now.depth) cursor.old) result cursor.new }
+        ensures { Answers (last_two_at (value_at self.now.scope.now self.now.depth) cursor.old)
+            result cursor.new }
     {
         let first = self.boxed(cursor)?;
         cursor.the_symbol(b",").ok_or(Unread::Strange)?;
@@ -80,7 +85,8 @@ impl<'a, F: Fn(Global, &Scope<'_>, &mut Cursor<'_>, usize) -> Result<ValueExpr, 
         cursor: &mut Cursor<'_>,
     ) -> Result<(Boxed<ValueExpr>, Boxed<ValueExpr>), Unread>
         requires { NestsValues self.now.depth (F.pre self.now.inner) (F.post self.now.inner) }
-        ensures { Answers (two_at (value_at self.now.scope.now self.now.depth) cursor.old) result cursor.new }
+        ensures { Answers (two_at (value_at self.now.scope.now self.now.depth) cursor.old) result
+            cursor.new }
     {
         cursor.the_symbol(b"(").ok_or(Unread::Strange)?;
         self.last_two(cursor)
@@ -89,7 +95,8 @@ impl<'a, F: Fn(Global, &Scope<'_>, &mut Cursor<'_>, usize) -> Result<ValueExpr, 
     #[tactic(auto, unfolding(rule_grammar::specs::ValueReading::indexable_at))]
     fn indexable(&self, cursor: &mut Cursor<'_>) -> Result<ValueExpr, Unread>
         requires { NestsValues self.now.depth (F.pre self.now.inner) (F.post self.now.inner) }
-        ensures { Answers (indexable_at (value_at self.now.scope.now self.now.depth) cursor.old) result cursor.new }
+        ensures { Answers (indexable_at (value_at self.now.scope.now self.now.depth) cursor.old)
+            result cursor.new }
     {
         cursor.the_symbol(b"(").ok_or(Unread::Strange)?;
         let stream = self.boxed(cursor)?;
@@ -115,7 +122,8 @@ impl<'a, F: Fn(Global, &Scope<'_>, &mut Cursor<'_>, usize) -> Result<ValueExpr, 
     #[tactic(auto, unfolding(rule_grammar::specs::ValueReading::bare_at))]
     fn bare(&self, cursor: &mut Cursor<'_>) -> Result<ValueExpr, Unread>
         requires { NestsValues self.now.depth (F.pre self.now.inner) (F.post self.now.inner) }
-        ensures { Answers (bare_at self.now.scope.now (value_at self.now.scope.now self.now.depth) cursor.old) result cursor.new }
+        ensures { Answers (bare_at self.now.scope.now (value_at self.now.scope.now self.now.depth)
+            cursor.old) result cursor.new }
     {
         let word = cursor.word().ok_or(Unread::Strange)?;
         match value_head(word) {
@@ -137,7 +145,8 @@ impl<'a, F: Fn(Global, &Scope<'_>, &mut Cursor<'_>, usize) -> Result<ValueExpr, 
     #[tactic(auto, unfolding(rule_grammar::specs::ValueReading::required_at))]
     fn required(&self, cursor: &mut Cursor<'_>) -> Result<Boxed<ValueExpr>, Unread>
         requires { NestsValues self.now.depth (F.pre self.now.inner) (F.post self.now.inner) }
-        ensures { Answers (required_at (value_at self.now.scope.now self.now.depth) cursor.old) result cursor.new }
+        ensures { Answers (required_at (value_at self.now.scope.now self.now.depth) cursor.old)
+            result cursor.new }
     {
         let value = self.boxed(cursor)?;
         cursor.the_symbol(b"]").ok_or(Unread::Strange)?;
@@ -148,7 +157,8 @@ impl<'a, F: Fn(Global, &Scope<'_>, &mut Cursor<'_>, usize) -> Result<ValueExpr, 
     #[tactic(auto, unfolding(rule_grammar::specs::ValueReading::requirement_at))]
     fn requirement(&self, cursor: &mut Cursor<'_>, stream: ValueExpr) -> Result<ValueExpr, Unread>
         requires { NestsValues self.now.depth (F.pre self.now.inner) (F.post self.now.inner) }
-        ensures { Answers (requirement_at (value_at self.now.scope.now self.now.depth) stream cursor.old) result cursor.new }
+        ensures { Answers (requirement_at (value_at self.now.scope.now self.now.depth) stream
+            cursor.old) result cursor.new }
     {
         let stream = Boxed::new(self.alloc, stream)?;
         let word = cursor.word().ok_or(Unread::Strange)?;
@@ -169,7 +179,8 @@ impl<'a, F: Fn(Global, &Scope<'_>, &mut Cursor<'_>, usize) -> Result<ValueExpr, 
     #[tactic(auto, unfolding(rule_grammar::specs::ValueReading::value_by))]
     pub fn value(&self, cursor: &mut Cursor<'_>) -> Result<ValueExpr, Unread>
         requires { NestsValues self.now.depth (F.pre self.now.inner) (F.post self.now.inner) }
-        ensures { Answers (value_by self.now.scope.now (value_at self.now.scope.now self.now.depth) cursor.old) result cursor.new }
+        ensures { Answers (value_by self.now.scope.now (value_at self.now.scope.now self.now.depth)
+            cursor.old) result cursor.new }
     {
         let mut value = self.bare(cursor)?;
         while cursor.the_symbol(b"[").is_some() {

@@ -11,7 +11,8 @@ use std::alloc::Global;
 
 /// The value at the front of the lexemes, where at most `depth` values are open inside one another.
 ///
-/// Values are read by recursion. The tokens of one statement that `sb_text::tokens` gave nest brackets at most 32 deep.
+/// Values are read by recursion. The tokens of one statement that `sb_text::tokens` gave nest
+/// brackets at most 32 deep.
 pub fn value(
     alloc: Global,
     scope: &Scope<'_>,

@@ -17,7 +17,8 @@ pub struct MemoryShelf {
     pub calls: u32,
     /// How many calls failed.
     pub faults: u64,
-    /// How many bytes were taken: those of each file that was given, also as records, and `max + 1` of one that was too long.
+    /// How many bytes were taken: those of each file that was given, also as records, and `max + 1`
+    /// of one that was too long.
     pub taken: u64,
     /// The call that failed last.
     pub last: Option<FailedCall>,
@@ -85,11 +86,16 @@ impl Shelf for MemoryShelf {
     fn bytes(&mut self, alloc: Global, name: &str, max: usize) -> Result<Vec<u8>, ShelfFault>
         ensures goes { Goes (state_of self.old) (state_of self.new) }
         ensures within { IfOk result (λ bytes. length bytes.items ≤ max) }
-        ensures told { IfOk result (λ bytes. TellsBytes (state_of self.old).held name.now bytes.items) }
-        ensures failed { IsErrOf result ShelfFault.Failed → FailsAt (state_of self.old) (state_of self.new) (false, name.now) }
-        ensures no_fault { (IsErrOf result ShelfFault.Failed → ⊥) → NoFault (state_of self.old) (state_of self.new) }
-        ensures too_long { IsErrOf result ShelfFault.TooLong → RoseBy (max + 1) (state_of self.old).taken (state_of self.new).taken }
-        ensures told_too_long { IsErrOf result ShelfFault.TooLong → TellsMore (state_of self.old).held name.now max }
+        ensures told { IfOk result (λ bytes. TellsBytes (state_of self.old).held name.now
+            bytes.items) }
+        ensures failed { IsErrOf result ShelfFault.Failed
+            → FailsAt (state_of self.old) (state_of self.new) (false, name.now) }
+        ensures no_fault { (IsErrOf result ShelfFault.Failed → ⊥)
+            → NoFault (state_of self.old) (state_of self.new) }
+        ensures too_long { IsErrOf result ShelfFault.TooLong
+            → RoseBy (max + 1) (state_of self.old).taken (state_of self.new).taken }
+        ensures told_too_long { IsErrOf result ShelfFault.TooLong
+            → TellsMore (state_of self.old).held name.now max }
         ensures answers { AnswersBytes self.old name.now max result self.new }
     {
         let call = FailedCall::new(alloc, false, name)?;
@@ -112,11 +118,16 @@ impl Shelf for MemoryShelf {
 
     fn records(&mut self, alloc: Global, name: &str, max: usize) -> Result<RawTable, ShelfFault>
         ensures goes { Goes (state_of self.old) (state_of self.new) }
-        ensures told { IfOk result (λ table. TellsRecords (state_of self.old).held name.now max table) }
-        ensures failed { IsErrOf result ShelfFault.Failed → FailsAt (state_of self.old) (state_of self.new) (true, name.now) }
-        ensures no_fault { (IsErrOf result ShelfFault.Failed → ⊥) → NoFault (state_of self.old) (state_of self.new) }
-        ensures too_long { IsErrOf result ShelfFault.TooLong → RoseBy (max + 1) (state_of self.old).taken (state_of self.new).taken }
-        ensures told_too_long { IsErrOf result ShelfFault.TooLong → TellsMore (state_of self.old).held name.now max }
+        ensures told { IfOk result (λ table. TellsRecords (state_of self.old).held name.now max
+            table) }
+        ensures failed { IsErrOf result ShelfFault.Failed
+            → FailsAt (state_of self.old) (state_of self.new) (true, name.now) }
+        ensures no_fault { (IsErrOf result ShelfFault.Failed → ⊥)
+            → NoFault (state_of self.old) (state_of self.new) }
+        ensures too_long { IsErrOf result ShelfFault.TooLong
+            → RoseBy (max + 1) (state_of self.old).taken (state_of self.new).taken }
+        ensures told_too_long { IsErrOf result ShelfFault.TooLong
+            → TellsMore (state_of self.old).held name.now max }
         ensures answers { AnswersRecords self.old name.now max result self.new }
     {
         let call = FailedCall::new(alloc, true, name)?;

@@ -39,14 +39,16 @@ impl Model for MemorySink {
 impl MemorySink {
     /// An empty sink with room for so many bytes, which it reserves.
     ///
-    /// An entry `(number, keep)` of `failing` makes the call of this number, from 1, fail after `keep` bytes of its
-    /// piece, or after as many as there are and as fit. Of two entries of one number the first holds.
+    /// An entry `(number, keep)` of `failing` makes the call of this number, from 1, fail after
+    /// `keep` bytes of its piece, or after as many as there are and as fit. Of two entries of one
+    /// number the first holds.
     pub fn new(
         alloc: Global,
         room: usize,
         failing: Vec<(u32, usize)>,
     ) -> Result<MemorySink, AllocError>
-        ensures { IfOk result (λ sink. sink ≡ record { taken = []; failing = failing.items; calls = 0; room = room; faults = 0 }) }
+        ensures { IfOk result (λ sink. sink ≡ record
+            { taken = []; failing = failing.items; calls = 0; room = room; faults = 0 }) }
     {
         let taken = Vec::with_capacity(alloc, room)?;
         Ok(MemorySink {
@@ -90,7 +92,8 @@ fn find(failing: &[(u32, usize)], number: u32) -> Option<usize>
         .map(|entry| entry.1)
 }
 
-// How much of a piece the call after so many adds before it fails; none: all of it, and it succeeds.
+// How much of a piece the call after so many adds before it fails; none: all of it, and it
+// succeeds.
 fn cut_at(failing: &[(u32, usize)], calls: u32, size: usize, left: usize) -> Option<usize>
     ensures value { result ≡ cut failing.now calls size left }
     ensures within { MatchOption result (size ≤ left) (λ count. (count ≤ size) × (count ≤ left)) }
@@ -110,20 +113,29 @@ impl Sink for MemorySink {
 
     fn put(&mut self, piece: &[u8]) -> Result<(), SinkFault>
         ensures puts { RoseAtMost 1 (state_of self.old).puts (state_of self.new).puts }
-        ensures added { OnOk result (Adds (state_of self.old).taken piece.now (state_of self.new).taken) }
+        ensures added { OnOk result (Adds (state_of self.old).taken piece.now
+            (state_of self.new).taken) }
         ensures no_fault { OnOk result ((state_of self.new).faults ≡ (state_of self.old).faults) }
-        ensures part { OnErr result (AddsPrefix (state_of self.old).taken piece.now (state_of self.new).taken) }
+        ensures part { OnErr result (AddsPrefix (state_of self.old).taken piece.now
+            (state_of self.new).taken) }
         ensures failed { OnErr result (Rose (state_of self.old).faults (state_of self.new).faults) }
         ensures kept { (state_of self.old).faults ≤ (state_of self.new).faults }
 
         // What each answer comes from, and what becomes of the sink.
         ensures whole { OnOk result ((cut_of self.old (length piece.now) ≡ None)
-            × (self.new ≡ record self.old { taken = self.old.taken ++ piece.now; calls = one_more self.old.calls })) }
-        ensures cut_short { OnErr result ((count : ℕ) × (cut_of self.old (length piece.now) ≡ Some count)
             × (self.new ≡ record self.old {
-              taken = self.old.taken ++ take count piece.now;
+              taken = self.old.taken
+                  ++ piece.now;
               calls = one_more self.old.calls;
-              faults = min (self.old.faults + 1) (2 ^ 64 - 1);
+            })) }
+        ensures cut_short { OnErr result ((count : ℕ)
+            × (cut_of self.old (length piece.now) ≡ Some count)
+            × (self.new ≡ record self.old {
+              taken = self.old.taken
+                  ++ take count piece.now;
+              calls = one_more self.old.calls;
+              faults = min
+                  (self.old.faults + 1) (2 ^ 64 - 1);
             })) }
     {
         let left = self.room - self.taken.len();

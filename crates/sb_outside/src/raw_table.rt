@@ -6,7 +6,8 @@ ghost use Rattle.sb_outside.specs.Records.{record_at};
 use std::alloc::{AllocError, Global};
 use std::marker::Model;
 
-/// The records of a file of comma-separated values: each is a list of fields, and a field is any bytes.
+/// The records of a file of comma-separated values: each is a list of fields, and a field is any
+/// bytes.
 ///
 /// Records may differ in length. All numbers are from 0.
 #[derive(Drop)]
@@ -89,7 +90,8 @@ impl RawTable {
         ensures added { OnOk result (self.new ≡ with_last_item self.old field.now) }
         ensures kept { OnErr result (self.new ≡ self.old) }
     {
-        // What may fail stands before what changes the view, so that a refused field leaves no part.
+        // What may fail stands before what changes the view, so that a refused field leaves no
+        // part.
         self.bytes.reserve(field.len())?;
         self.field_ends.push(self.bytes.len() + field.len())?;
         self.bytes.extend_from_slice(field).unwrap();

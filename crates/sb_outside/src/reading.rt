@@ -43,10 +43,11 @@ fn add_record(table: &mut RawTable, row: &ByteRecord) -> Result<(), AllocError>
     Ok(())
 }
 
-/// All records of these bytes, as `csv` reads them: fields are separated by `,`, and a field in double quotes may have `,`, line ends
-/// and doubled quotes.
+/// All records of these bytes, as `csv` reads them: fields are separated by `,`, and a field in
+/// double quotes may have `,`, line ends and doubled quotes.
 ///
-/// Records may differ in length, and the first is a record like any other. A byte order mark at the front is dropped.
+/// Records may differ in length, and the first is a record like any other. A byte order mark at the
+/// front is dropped.
 pub fn read_table(alloc: Global, bytes: &[u8]) -> Result<RawTable, RecordsFault>
     ensures { IfOk result (λ table. table ≡ records_of bytes.now) }
 {

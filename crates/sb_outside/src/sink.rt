@@ -18,7 +18,8 @@ pub trait Sink {
         ensures puts { RoseAtMost 1 (state self.old).puts (state self.new).puts }
         ensures added { OnOk result (Adds (state self.old).taken piece.now (state self.new).taken) }
         ensures no_fault { OnOk result ((state self.new).faults ≡ (state self.old).faults) }
-        ensures part { OnErr result (AddsPrefix (state self.old).taken piece.now (state self.new).taken) }
+        ensures part { OnErr result (AddsPrefix (state self.old).taken piece.now
+            (state self.new).taken) }
         ensures failed { OnErr result (Rose (state self.old).faults (state self.new).faults) }
         ensures kept { (state self.old).faults ≤ (state self.new).faults };
 }

@@ -1,6 +1,7 @@
 -- How deep a statement nests its brackets, and which statement is the first that is too deep or too long.
 use Rattle.std.specs.Prelude.{ℕ, ◌+◌, ◌-◌, Bool, ◌==◌, ◌||◌, nat_lt, max, List, [], ◌∷◌, length, Option, if◌then◌else◌}
 use Rattle.std.specs.List.{position_from}
+use Rattle.sb_text.specs.Limits.{deepest_brackets, most_tokens}
 use Rattle.sb_text.specs.declared.token.Token.{Token}
 use Rattle.sb_text.specs.Statements.{Part}
 
@@ -23,7 +24,7 @@ greatest_depth depth (t ∷ ts) = max depth (greatest_depth (depth_after depth t
 
 -- more than 4,096 tokens, or brackets deeper than 32
 abbrev pub is_too_deep : List Token → Bool
-is_too_deep ts = nat_lt 4096 (length ts) || nat_lt 32 (greatest_depth 0 ts)
+is_too_deep ts = nat_lt most_tokens (length ts) || nat_lt deepest_brackets (greatest_depth 0 ts)
 
 -- the number, from 1, of the first such statement
 abbrev pub first_too_deep : List Part → Option ℕ

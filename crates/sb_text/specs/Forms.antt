@@ -2,6 +2,7 @@
 use Rattle.std.specs.Prelude.{◌≡◌, ◌<◌, ◌≤◌, ℕ, Bool, IsTrue, List, [], ◌∷◌, ◌++◌, length, map, codes, Contains, if◌then◌else◌}
 use Rattle.std.specs.List.{AllPass}
 use Rattle.std.specs.Bool.{IsFalse}
+use Rattle.sb_text.specs.Limits.{most_digits}
 use Rattle.sb_text.specs.declared.token.TokenKind.{TokenKind}
 use Rattle.sb_text.specs.declared.token.TokenKind.TheVariants.{Word, Number, Text, Symbol}
 use Rattle.sb_text.specs.Bytes.{begins_word, is_in_word, is_digit, is_quote, symbol_bytes, is_double}
@@ -19,7 +20,7 @@ NotFirst test (b ∷ rest) = IsFalse (test b)
 -- 1 to 19 digits with no digit after them
 pub record IsNumber (bytes after : List ℕ) : Type 0 where
   pub some : 0 < length bytes
-  pub few : length bytes ≤ 19
+  pub few : length bytes ≤ most_digits
   pub digits : AllPass is_digit bytes
   pub alone : NotFirst is_digit after
 

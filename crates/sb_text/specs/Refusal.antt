@@ -1,5 +1,6 @@
 -- Why a text is refused.
 use Rattle.std.specs.Prelude.{◌≡◌, ◌≤◌, ℕ, All, List, length, Option, None, Some}
+use Rattle.sb_text.specs.Limits.{deepest_brackets, most_tokens}
 use Rattle.sb_text.specs.declared.token.Token.{Token}
 use Rattle.sb_text.specs.declared.token.TextFault.{TextFault}
 use Rattle.sb_text.specs.declared.token.TextFault.TheVariants.{Lexical, TooDeep, Memory}
@@ -35,5 +36,5 @@ IsFault source fault = fault_of source ≡ Some fault
 -- all bytes are tokens, and each statement has at most 4,096 of them and brackets at most 32 deep
 pub record IsAccepted (source : List ℕ) : Type 0 where
   pub whole : (lexed source).1 ≡ None
-  pub short : All (λ (part : Part). length (tokens_of part) ≤ 4096) (parts (lexed source).0)
-  pub shallow : All (λ (part : Part). greatest_depth 0 (tokens_of part) ≤ 32) (parts (lexed source).0)
+  pub short : All (λ (part : Part). length (tokens_of part) ≤ most_tokens) (parts (lexed source).0)
+  pub shallow : All (λ (part : Part). greatest_depth 0 (tokens_of part) ≤ deepest_brackets) (parts (lexed source).0)

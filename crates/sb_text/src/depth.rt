@@ -1,5 +1,6 @@
 // The first statement that is too deep or too long.
 ghost use Rattle.std.specs.Prelude.{◌≡◌, ◌≤◌, ◌<◌, ◌+◌, ◌^◌, length};
+ghost use Rattle.sb_text.specs.Limits.{most_text_bytes};
 ghost use Rattle.sb_text.specs.Statements.{parts};
 ghost use Rattle.sb_text.specs.Depth.{depth_after, is_too_deep, first_too_deep};
 
@@ -40,7 +41,7 @@ fn is_too_deep(tokens: &[Token]) -> bool
 
 // The number of the first statement that is too deep, where one is.
 pub fn first_too_deep(tokens: &[Token]) -> Option<u32>
-    requires { length tokens.now ≤ 1048576 }
+    requires { length tokens.now ≤ most_text_bytes }
     ensures { result ≡ first_too_deep (parts tokens.now) }
 {
     let mut number = 1;

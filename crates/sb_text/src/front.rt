@@ -113,7 +113,8 @@ fn symbol(b: u8, rest: &[u8]) -> Option<usize>
     if is_symbol(b) { Some(1) } else { None }
 }
 
-// The bytes of a text behind its first quote, with the last one. A doubled quote ends the text where no later one does.
+// The bytes of a text behind its first quote, with the last one. A doubled quote ends the text
+// where no later one does.
 fn quoted(rest: &[u8]) -> Option<usize>
     ensures value { result ≡ quoted_len rest.now }
     ensures bound { IfSome result (λ n. (0 < n) × (n ≤ length rest.now)) }

@@ -1,7 +1,8 @@
 //! The tokens of a text and its statements.
 //!
-//! All texts (rule files, catalogues, queries, derivations) are made of the same tokens: words, numbers, texts in quotes
-//! and symbols, with white space and comments between them. A statement ends with `;`.
+//! All texts (rule files, catalogues, queries, derivations) are made of the same tokens: words,
+//! numbers, texts in quotes and symbols, with white space and comments between them. A statement
+//! ends with `;`.
 #![tactic(auto)]
 
 mod depth;

@@ -1,5 +1,6 @@
 // The reader of tokens.
 ghost use Rattle.std.specs.Prelude.{◌≡◌, ◌≤◌, ◌<◌, length, drop, None, Some, MatchResult, IfOk};
+ghost use Rattle.sb_text.specs.Limits.{most_text_bytes};
 ghost use Rattle.sb_text.specs.declared.token.TextFault.TheVariants.{Lexical};
 ghost use Rattle.sb_text.specs.Tokens.{lexed};
 ghost use Rattle.sb_text.specs.Refusal.{AreTokens, IsFault, IsLexical};
@@ -19,8 +20,9 @@ fn rest_from(source: &[u8], at: usize) -> &[u8]
 
 // The tokens, however deep their brackets are.
 fn lexed(alloc: Global, source: &[u8]) -> Result<Vec<Token>, TextFault>
-    requires { length source.now ≤ 1048576 }
-    ensures tokens { MatchResult result (λ v. lexed source.now ≡ (v.items, None)) (λ fault. IsLexical source.now fault) }
+    requires { length source.now ≤ most_text_bytes }
+    ensures tokens { MatchResult result (λ v. lexed source.now ≡ (v.items, None))
+        (λ fault. IsLexical source.now fault) }
     ensures count { IfOk result (λ v. length v.items ≤ length source.now) }
 {
     let mut tokens = Vec::new(alloc);
@@ -47,10 +49,11 @@ fn lexed(alloc: Global, source: &[u8]) -> Result<Vec<Token>, TextFault>
     Ok(tokens)
 }
 
-/// The tokens of a text, in order, or why it is refused. `Lexical` is judged over the whole text before `TooDeep`, and want of
-/// memory may come at any text. The time is linear in the length of the text.
+/// The tokens of a text, in order, or why it is refused. `Lexical` is judged over the whole text
+/// before `TooDeep`, and want of memory may come at any text. The time is linear in the length of
+/// the text.
 pub fn tokens(alloc: Global, source: &[u8]) -> Result<Vec<Token>, TextFault>
-    requires { length source.now ≤ 1048576 }
+    requires { length source.now ≤ most_text_bytes }
     ensures { MatchResult result (λ v. AreTokens source.now v.items) (IsFault source.now) }
 {
     let tokens = lexed(alloc, source)?;

@@ -59,7 +59,8 @@ impl<'a> Iterator for StatementIter<'a> {
     }
 }
 
-/// The slices of the tokens before each `;`, and then, where tokens follow the last `;`, the slice of these.
+/// The slices of the tokens before each `;`, and then, where tokens follow the last `;`, the slice
+/// of these.
 pub fn statements(tokens: &[Token]) -> StatementIter<'_>
     ensures { parts_of_iter result ≡ parts tokens.now }
 {

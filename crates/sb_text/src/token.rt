@@ -34,8 +34,8 @@ pub struct Token {
 pub enum TextFault {
     /// No token begins at this offset, and all before it are tokens, white space and comments.
     Lexical(u32),
-    /// All bytes are tokens, and this statement, counted from 1, is the first that nests brackets deeper than 32 or has
-    /// more than 4,096 tokens before its `;`.
+    /// All bytes are tokens, and this statement, counted from 1, is the first that nests brackets
+    /// deeper than 32 or has more than 4,096 tokens before its `;`.
     TooDeep(u32),
     /// Memory ran out.
     Memory,

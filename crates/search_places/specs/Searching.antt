@@ -1,5 +1,6 @@
 -- On what a search of a goal's plans stands, how far it is in an alternative, and how far it still has to go.
 use Rattle.std.specs.Prelude.{◌≡◌, ℕ, ◌+◌, ◌*◌, ◌≤◌, max, List, ◌++◌, length, fold, Some}
+use Rattle.star_model.specs.Limits.{most_bindings, most_ranges}
 use Rattle.star_model.specs.Accepted.{references_in}
 use Rattle.star_model.specs.AskedGoals.{Leads}
 use Rattle.star_model.specs.Goals.{IsGoal}
@@ -39,8 +40,8 @@ pub record IsWithin (s : Search) (star : List ℕ) (n : ℕ) (a : Alternative) (
   pub leads : LeadsTo s (Call star call)
   pub found : alternative_of s.rules.now star n ≡ Some a
   pub bindings : (more : List ℕ) → bound s.query.now ranges more c ≡ bound s.query.now a.ranges (picked ++ more) call
-  pub room : length c + length ranges ≤ 10
-  pub numbers : length picked + length ranges ≤ 2
+  pub room : length c + length ranges ≤ most_bindings
+  pub numbers : length picked + length ranges ≤ most_ranges
 
 -- ---- how far a search still has to go
 

@@ -1,6 +1,7 @@
 // Bindings of one name more. None of it takes memory.
 
 ghost use Rattle.std.specs.Prelude.{◌≡◌, ◌<◌, ◌++◌, ◌∷◌, [], length};
+ghost use Rattle.star_model.specs.Limits.{most_bindings};
 
 use star_model::derivations::ForAllValues;
 use star_model::values::RuleValue;
@@ -8,7 +9,7 @@ use star_value::Env;
 
 /// The bindings with one more.
 pub fn with_value(env: &Env, value: RuleValue) -> Env
-    requires { length env.now < 10 }
+    requires { length env.now < most_bindings }
     ensures { result ≡ env.now ++ value ∷ [] }
 {
     let mut more = env.copied();

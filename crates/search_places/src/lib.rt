@@ -1,4 +1,5 @@
-//! The places of a rule file to which a search for a goal's plans comes, and the bindings that it has there.
+//! The places of a rule file to which a search for a goal's plans comes, and the bindings that it
+//! has there.
 #![tactic(auto)]
 
 mod bindings;

@@ -21,7 +21,8 @@ pub fn star_called<'a>(rules: &'a RuleFile, letters: &[u8]) -> Option<&'a StarDe
         .find(|star| star.name.as_slice() == letters)
 }
 
-/// The name of the root STAR of a split, as the file has it: that for one quantifier, where there is no split, or that for several.
+/// The name of the root STAR of a split, as the file has it: that for one quantifier, where there
+/// is no split, or that for several.
 pub fn root_name<'a>(rules: &'a CheckedRules, split: Option<(QuantSet, QuantSet)>) -> &'a Name
     ensures { result.now ≡ root_of_split split }
 {

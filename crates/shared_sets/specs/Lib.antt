@@ -1,4 +1,6 @@
+-- for readers of the promise
 pub mod Equality
-pub mod EqualityCases
 pub mod Tables
+-- case by case, for proofs
+pub mod EqualityCases
 pub mod RequestCases

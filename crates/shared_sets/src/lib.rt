@@ -1,4 +1,5 @@
-//! Sets of plans that are made once and asked for again: those of calls of STARs, and those that Glue makes.
+//! Sets of plans that are made once and asked for again: those of calls of STARs, and those that
+//! Glue makes.
 #![tactic(auto)]
 
 mod equality;

@@ -68,7 +68,8 @@ impl RefTable {
         }
     }
 
-    /// The set that was kept for the STAR under these values of its parameters, if one was, to be shared. It takes no memory.
+    /// The set that was kept for the STAR under these values of its parameters, if one was, to be
+    /// shared. It takes no memory.
     pub fn find_shared(&self, star: &Name, env: &Env) -> Option<&SharedSet>
         ensures { option_copied result ≡ kept_for self.now star.now env.now }
     {
@@ -76,18 +77,20 @@ impl RefTable {
         Some(plans)
     }
 
-    /// The set that was kept for the STAR under these values of its parameters, if one was. It takes no memory.
+    /// The set that was kept for the STAR under these values of its parameters, if one was. It
+    /// takes no memory.
     pub fn find(&self, star: &Name, env: &Env) -> Option<&PlanSet<Entry>>
         ensures { option_copied result ≡ kept_for self.now star.now env.now }
     {
         Some(self.find_shared(star, env)?.get())
     }
 
-    /// Keeps the set for the STAR under these values of its parameters. Where memory is wanting, the table stays as it is and the set is
-    /// dropped.
+    /// Keeps the set for the STAR under these values of its parameters. Where memory is wanting,
+    /// the table stays as it is and the set is dropped.
     pub fn keep(&mut self, star: &Name, env: &Env, plans: PlanSet<Entry>) -> Result<(), AllocError>
         requires { kept_for self.old star.now env.now ≡ None }
-        ensures kept { OnOk result (self.new ≡ self.old ++ (record { star = star.now; env = env.now }, plans) ∷ []) }
+        ensures kept { OnOk result (self.new ≡ self.old
+            ++ (record { star = star.now; env = env.now }, plans) ∷ []) }
         ensures memory { OnErr result (self.new ≡ self.old) }
     {
         let plans = SharedSet::new(self.alloc, plans)?;
@@ -102,7 +105,8 @@ impl RefTable {
         plans: SharedSet,
     ) -> Result<(), AllocError>
         requires { kept_for self.old star.now env.now ≡ None }
-        ensures kept { OnOk result (self.new ≡ self.old ++ (record { star = star.now; env = env.now }, plans) ∷ []) }
+        ensures kept { OnOk result (self.new ≡ self.old
+            ++ (record { star = star.now; env = env.now }, plans) ∷ []) }
         ensures memory { OnErr result (self.new ≡ self.old) }
     {
         let call = copied_call(self.alloc, star, env)?;

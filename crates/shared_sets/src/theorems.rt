@@ -17,9 +17,12 @@ pub fn tests_tell_equality()
 
 /// What is found after a set was kept was found before, or is that set, kept for what is asked for.
 pub fn tables_have_what_was_kept()
-    ensures calls { (table : List (StarCall × List DerivedPlan)) (star other : List ℕ) (env values : List RuleValue) (plans found : List DerivedPlan)
-        → kept_for (table ++ (record { star = star; env = env }, plans) ∷ []) other values ≡ Some found
-        → (kept_for table other values ≡ Some found) ⊎ ((star ≡ other) × (env ≡ values) × (plans ≡ found)) }
-    ensures requests { (table : List (GlueRequest × List DerivedPlan)) (r s : GlueRequest) (plans found : List DerivedPlan)
-        → glued_for (table ++ (r, plans) ∷ []) s ≡ Some found → (glued_for table s ≡ Some found) ⊎ ((r ≡ s) × (plans ≡ found)) }
+    ensures calls { (table : List (StarCall × List DerivedPlan)) (star other : List ℕ)
+        (env values : List RuleValue) (plans found : List DerivedPlan)
+        → kept_for (table ++ (record { star = star; env = env }, plans) ∷ []) other values
+        ≡ Some found → (kept_for table other values ≡ Some found)
+        ⊎ ((star ≡ other) × (env ≡ values) × (plans ≡ found)) }
+    ensures requests { (table : List (GlueRequest × List DerivedPlan)) (r s : GlueRequest)
+        (plans found : List DerivedPlan) → glued_for (table ++ (r, plans) ∷ []) s ≡ Some found
+        → (glued_for table s ≡ Some found) ⊎ ((r ≡ s) × (plans ≡ found)) }
 {}

@@ -1,6 +1,7 @@
 -- The tokens that a cursor may stand over.
 use Rattle.std.specs.Prelude.{◌≤◌, ℕ, List, length}
 use Rattle.std.specs.Str.Parse.{IsNumeral}
+use Rattle.sb_text.specs.Limits.{most_digits}
 use Rattle.sb_text.specs.declared.token.Token.{Token}
 use Rattle.sb_text.specs.Reading.{IsTokenOf}
 use Rattle.sb_text.specs.Statements.{Part}
@@ -20,4 +21,4 @@ IsPartOf source part = AreTokensOf source part.0
 -- a numeral whose value a machine word holds
 pub record IsMachineNumber (bytes : List ℕ) : Type 0 where
   pub numeral : IsNumeral 10 bytes
-  pub few : length bytes ≤ 19
+  pub few : length bytes ≤ most_digits

@@ -1,5 +1,6 @@
 -- The limits, in the order in which they are tested within a statement.
 use Rattle.std.specs.Prelude.{ℕ, ◌<◌, ◌≤◌, ◌⊎◌, List, [], ◌∷◌, length}
+use Rattle.star_model.specs.Limits.{most_name_bytes}
 use Rattle.star_model.specs.declared.faults.LimitKind.{LimitKind}
 use Rattle.star_model.specs.declared.faults.LimitKind.TheVariants as limit
 use Rattle.star_model.specs.Numbers.{top}
@@ -33,7 +34,7 @@ pub record IsFirstBeyond (Beyond : LimitKind → Type 0) (what : LimitKind) : Ty
 -- a word of over 64 bytes is among the lexemes
 abbrev pub HasLongWord : List Lexeme → Type 0
 HasLongWord [] = ⊥
-HasLongWord (Word bytes ∷ rest) = (64 < length bytes) ⊎ HasLongWord rest
+HasLongWord (Word bytes ∷ rest) = (most_name_bytes < length bytes) ⊎ HasLongWord rest
 HasLongWord (Number n ∷ rest) = HasLongWord rest
 HasLongWord (Text bytes ∷ rest) = HasLongWord rest
 HasLongWord (Symbol bytes ∷ rest) = HasLongWord rest

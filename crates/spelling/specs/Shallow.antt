@@ -1,5 +1,6 @@
 -- Statements that are short and open few brackets.
 use Rattle.std.specs.Prelude.{ℕ, ◌+◌, ◌≤◌, Bool, false, ◌||◌, ◌==◌, if◌then◌else◌, List, [], ◌∷◌, length}
+use Rattle.sb_text.specs.Limits.{deepest_brackets, most_tokens}
 use Rattle.spelling.specs.Lexemes.{Lexeme, Word, Number, Text, Symbol}
 
 -- `(`, `[` and `{`
@@ -20,5 +21,5 @@ count_opens (x ∷ xs) = (if opens x then 1 else 0) + count_opens xs
 
 -- a statement that keeps the limit on tokens, and whose brackets can open no deeper than the limit
 pub record IsShallow (statement : List Lexeme) : Type 0 where
-  pub short : length statement ≤ 4096
-  pub few : count_opens statement ≤ 32
+  pub short : length statement ≤ most_tokens
+  pub few : count_opens statement ≤ deepest_brackets

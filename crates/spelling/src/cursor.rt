@@ -11,7 +11,8 @@ use sb_text::{Token, TokenKind};
 use std::alloc::{AllocError, Global};
 use std::marker::Model;
 
-/// The lexemes of a statement that are still to be read. Where a method answers `None`, the next lexeme is no such one.
+/// The lexemes of a statement that are still to be read. Where a method answers `None`, the next
+/// lexeme is no such one.
 #[derive(Drop)]
 pub struct Cursor<'a> {
     source: &'a [u8],
@@ -155,9 +156,11 @@ impl<'a> Cursor<'a> {
         }
     }
 
-    /// Passes the next text, which is as it is written behind its first quote. Where none is next, nothing is passed.
+    /// Passes the next text, which is as it is written behind its first quote. Where none is next,
+    /// nothing is passed.
     pub fn text(&mut self) -> Option<&'a [u8]>
-        ensures reads { Reads (a_text self.old) (option_map undoubled (option_copied result)) self.new }
+        ensures reads { Reads (a_text self.old) (option_map undoubled (option_copied result))
+            self.new }
         ensures stays { IfNone result (self.new ≡ self.old) }
     {
         match self.left {
@@ -171,7 +174,8 @@ impl<'a> Cursor<'a> {
     }
 }
 
-/// What a text says that is written so behind its first quote: the bytes with each doubled quote as one.
+/// What a text says that is written so behind its first quote: the bytes with each doubled quote as
+/// one.
 pub fn text_bytes(alloc: Global, written: &[u8]) -> Result<Vec<u8>, AllocError>
     ensures { IfOk result (λ bytes. bytes.items ≡ undoubled written.now) }
 {

@@ -1,5 +1,5 @@
-//! Lexemes: what the tokens of a text say, how they are laid out, read and written, and which of its statements is the first that
-//! has a property. The grammars of the formats stand on it.
+//! Lexemes: what the tokens of a text say, how they are laid out, read and written, and which of
+//! its statements is the first that has a property. The grammars of the formats stand on it.
 #![tactic(auto)]
 
 mod cursor;

@@ -39,7 +39,8 @@ pub fn print_behind<T, P: Printer<T>>(
     symbol: &[u8],
     parts: &[T],
 ) -> Result<(), AllocError>
-    ensures { OnOk result (out.new ≡ puts out.old (flat_map (λ part. Symbol symbol.now ∷ P.lexemes printer.now part) parts.now)) }
+    ensures { OnOk result (out.new ≡ puts out.old
+        (flat_map (λ part. Symbol symbol.now ∷ P.lexemes printer.now part) parts.now)) }
 {
     for part in parts {
         out.symbol(symbol)?;
@@ -55,7 +56,8 @@ pub fn print_joined<T, P: Printer<T>>(
     symbol: &[u8],
     parts: &[T],
 ) -> Result<(), AllocError>
-    ensures { OnOk result (out.new ≡ puts out.old (joined_by (Symbol symbol.now) (map (P.lexemes printer.now) parts.now))) }
+    ensures { OnOk result (out.new ≡ puts out.old
+        (joined_by (Symbol symbol.now) (map (P.lexemes printer.now) parts.now))) }
 {
     let [first, later @ ..] = parts else {
         return Ok(());
@@ -72,7 +74,8 @@ pub fn print_call<T, P: Printer<T>>(
     word: &[u8],
     parts: &[T],
 ) -> Result<(), AllocError>
-    ensures { OnOk result (out.new ≡ puts out.old (call word.now (map (P.lexemes printer.now) parts.now))) }
+    ensures { OnOk result (out.new ≡ puts out.old
+        (call word.now (map (P.lexemes printer.now) parts.now))) }
 {
     out.word(word)?;
     out.symbol(b"(")?;

@@ -32,8 +32,8 @@ fn push_doubled(out: &mut Vec<u8>, bytes: &[u8]) -> Result<(), AllocError>
     Ok(())
 }
 
-/// A text that is written lexeme by lexeme, in canonical layout: the writer puts the spaces and the ends of lines. Whether bytes
-/// have the form of a word or a symbol is the caller's to know.
+/// A text that is written lexeme by lexeme, in canonical layout: the writer puts the spaces and the
+/// ends of lines. Whether bytes have the form of a word or a symbol is the caller's to know.
 ///
 /// Where a method answers an error, memory was wanting, and the text is of no use.
 #[derive(Drop)]
@@ -62,7 +62,11 @@ impl Writer {
     }
 
     fn put(&mut self, hangs: bool, bytes: &[u8], ending: Ending) -> Result<(), AllocError>
-        ensures { OnOk result (self.new ≡ record { text = self.old.text ++ ((if hangs then [] else 32 ∷ []) ++ bytes.now); ending = ending }) }
+        ensures { OnOk result (self.new ≡ record {
+          text = self.old.text ++ ((if hangs then [] else 32 ∷ []) ++ bytes.now);
+          ending =
+              ending;
+        }) }
     {
         if !hangs {
             self.text.push(b' ')?;

@@ -2,6 +2,7 @@
 use Rattle.std.specs.Prelude.{◌≡◌, ℕ, ◌+◌, max, true, nat_lt, List, Option, Some, None, position, slice_index, if◌then◌else◌}
 use Rattle.std.specs.List.{fold}
 use Rattle.std.specs.Option.{option_map_or}
+use Rattle.star_model.specs.Limits.{most_height, most_weight}
 use Rattle.star_model.specs.Numbers.{cut_sum}
 use Rattle.star_model.specs.Vectors.{same_numbers}
 use Rattle.star_model.specs.Accepted.{references_in, references_of, height_of, weight_of}
@@ -30,7 +31,7 @@ abbrev pub found_over : ℕ → ℕ → ℕ → Option (Found ℕ)
 found_over limit k size = if nat_lt limit size then Some (record { statement = k; what = size }) else None
 
 abbrev pub ShowsTall : RuleFile → StarDef → Found ℕ → Type 0
-ShowsTall rules s f = (s.statement ≡ f.statement) × (nat_lt 16 (height_of rules s) ≡ true) × (height_of rules s ≡ f.what)
+ShowsTall rules s f = (s.statement ≡ f.statement) × (nat_lt most_height (height_of rules s) ≡ true) × (height_of rules s ≡ f.what)
 
 abbrev pub ShowsWide : RuleFile → StarDef → Found ℕ → Type 0
-ShowsWide rules s f = (s.statement ≡ f.statement) × (nat_lt 4096 (weight_of rules s) ≡ true) × (weight_of rules s ≡ f.what)
+ShowsWide rules s f = (s.statement ≡ f.statement) × (nat_lt most_weight (weight_of rules s) ≡ true) × (weight_of rules s ≡ f.what)

@@ -20,7 +20,8 @@ fn count_of_parameters(rules: &RuleFile, name: &Name) -> usize
 // Whether a reference of the body has another count of arguments than its STAR has parameters.
 #[tactic(auto, using(crate::proofs::Walks::walks, star_model::specs::AcceptedEquations::references_in_cases))]
 fn refers_wrongly(rules: &RuleFile, plan: &PlanExpr) -> bool
-    ensures { result ≡ list_any (λ r. not (nat_eq (length r.1) (count_of_parameters rules.now r.0))) (references_in plan.now) }
+    ensures { result ≡ list_any (λ r. not (nat_eq (length r.1) (count_of_parameters rules.now r.0)))
+        (references_in plan.now) }
 {
     match plan {
         PlanExpr::Reference { star, args } => args.len() != count_of_parameters(rules, star),
@@ -47,7 +48,9 @@ fn refers_wrongly(rules: &RuleFile, plan: &PlanExpr) -> bool
 }
 
 fn refer_wrongly(rules: &RuleFile, alternatives: &[Alternative]) -> bool
-    ensures { result ≡ list_any (λ a. list_any (λ r. not (nat_eq (length r.1) (count_of_parameters rules.now r.0))) (references_in a.body)) alternatives.now }
+    ensures { result ≡ list_any (λ a. list_any
+        (λ r. not (nat_eq (length r.1) (count_of_parameters rules.now r.0))) (references_in a.body))
+        alternatives.now }
 {
     alternatives
         .iter()

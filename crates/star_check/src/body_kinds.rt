@@ -41,7 +41,8 @@ fn operator_has_kinds(kinds: &[Kind], flavour: Flavour, args: &[ValueExpr]) -> b
     have_kinds(kinds, argument_kinds(flavour), args)
 }
 
-/// Whether the values of the body have the kinds that their places ask, where the names have these kinds.
+/// Whether the values of the body have the kinds that their places ask, where the names have these
+/// kinds.
 #[tactic(auto, using(crate::proofs::BodyKinds::bodies))]
 pub fn body_has_kinds(rules: &RuleFile, kinds: &[Kind], plan: &PlanExpr) -> bool
     ensures { result ≡ body_has_kinds rules.now kinds.now plan.now }

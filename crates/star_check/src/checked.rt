@@ -82,7 +82,8 @@ impl CheckedRules {
 // The formulas as a map.
 fn costs_of(alloc: Global, formulas: &[FormulaDef]) -> Result<Costs, AllocError>
     requires { FormulasAreOwn formulas.now }
-    ensures { IfOk result (λ costs. costs ≡ map (λ d. record { flavour = d.flavour; which = d.which; formula = d.formula }) formulas.now) }
+    ensures { IfOk result (λ costs. costs ≡ map
+        (λ d. record { flavour = d.flavour; which = d.which; formula = d.formula }) formulas.now) }
 {
     let mut costs = Costs::new(alloc);
     for definition in formulas {
@@ -95,7 +96,8 @@ fn costs_of(alloc: Global, formulas: &[FormulaDef]) -> Result<Costs, AllocError>
 // The selectivities as a map.
 fn selects_of(alloc: Global, definitions: &[SelectDef]) -> Result<Selects, AllocError>
     requires { SelectsAreOwn definitions.now }
-    ensures { IfOk result (λ selects. selects ≡ map (λ d. record { class = d.class; num = d.num; den = d.den }) definitions.now) }
+    ensures { IfOk result (λ selects. selects
+        ≡ map (λ d. record { class = d.class; num = d.num; den = d.den }) definitions.now) }
 {
     let mut selects = Selects::new(alloc);
     for definition in definitions {
@@ -106,8 +108,8 @@ fn selects_of(alloc: Global, definitions: &[SelectDef]) -> Result<Selects, Alloc
     Ok(selects)
 }
 
-/// Accepts a rule file, or says why not. The order of the refusals is that of `RuleFault`, each over the whole file. On a
-/// refusal the file is dropped.
+/// Accepts a rule file, or says why not. The order of the refusals is that of `RuleFault`, each
+/// over the whole file. On a refusal the file is dropped.
 pub fn check_rules(alloc: Global, rules: RuleFile) -> Result<CheckedRules, RuleFault>
     requires { WellFormedRules rules }
     ensures { Checks rules result }

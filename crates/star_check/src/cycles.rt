@@ -1,5 +1,6 @@
 // STARs that reach themselves, and STARs of accesses that call Glue.
 ghost use Rattle.std.specs.Prelude.{◌≡◌, ◌<◌, ◌≤◌, nat_lt, ◌&&◌, ◌||◌, length, position, codes};
+ghost use Rattle.star_model.specs.Limits.{most_stars};
 ghost use Rattle.star_model.specs.Sets.{has};
 ghost use Rattle.star_model.specs.Vectors.{same_numbers};
 ghost use Rattle.star_model.specs.Accepted.{glues_in};
@@ -28,7 +29,7 @@ fn found_if(shows: bool, statement: u32) -> Option<Found<()>>
 
 /// The first STAR that reaches itself.
 pub fn first_in_cycle(rules: &RuleFile, rows: &[u64]) -> Option<Found<()>>
-    requires few { length rules.now.stars ≤ 64 }
+    requires few { length rules.now.stars ≤ most_stars }
     requires reached { AreReached rules.now rows.now }
     ensures { IsFirstFound (ShowsCycle rules.now) rules.now.stars result }
 {
@@ -96,15 +97,16 @@ fn access_row(stars: &[StarDef], rows: &[u64]) -> u64
 
 // Whether the STAR is `AccessRoot` or reached from it, and calls Glue.
 fn has_glue_in_access(star: &StarDef, access: u64, position: usize) -> bool
-    requires { position < 64 }
-    ensures { result ≡ ((same_numbers star.now.name (codes "AccessRoot") || has access position) && has_glue star.now.alternatives) }
+    requires { position < most_stars }
+    ensures { result ≡ ((same_numbers star.now.name (codes "AccessRoot") || has access position)
+        && has_glue star.now.alternatives) }
 {
     (is_access_root(star) || has(access, position)) && has_glue(star.alternatives.as_slice())
 }
 
 /// The first STAR that is `AccessRoot` or reached from it, and calls Glue.
 pub fn first_glue_in_access(rules: &RuleFile, rows: &[u64]) -> Option<Found<()>>
-    requires few { length rules.now.stars ≤ 64 }
+    requires few { length rules.now.stars ≤ most_stars }
     requires reached { AreReached rules.now rows.now }
     ensures { IsFirstFound (ShowsGlue rules.now) rules.now.stars result }
 {

@@ -1,5 +1,6 @@
 // The refusals of a rule file, in their order: each over the whole file.
 ghost use Rattle.std.specs.Prelude.{◌≤◌, length, IfOk};
+ghost use Rattle.star_model.specs.Limits.{most_stars};
 ghost use Rattle.star_model.specs.Accepted.{Unknown, Twice};
 ghost use Rattle.star_model.specs.Every.{Every};
 ghost use Rattle.star_model.specs.WellFormedRules.{WellFormedRules};
@@ -44,7 +45,7 @@ fn fault_of_names(alloc: Global, rules: &RuleFile) -> Result<Option<RuleFault>, 
 
 // The fault in how STARs refer to one another, if there is one.
 fn fault_of_references(alloc: Global, rules: &RuleFile) -> Result<Option<RuleFault>, AllocError>
-    requires few { length rules.now.stars ≤ 64 }
+    requires few { length rules.now.stars ≤ most_stars }
     requires names { NamesPass rules.now }
     requires own { NamesAreOwn rules.now }
     ensures { IfOk result (λ fault. PassesOr rules.now (ReferencesPass rules.now) fault) }
@@ -84,7 +85,7 @@ fn fault_of_formulas(rules: &RuleFile) -> Option<RuleFault>
 
 // The fault in the sizes of STARs, if there is one.
 fn fault_of_sizes(alloc: Global, rules: &RuleFile) -> Result<Option<RuleFault>, AllocError>
-    requires few { length rules.now.stars ≤ 64 }
+    requires few { length rules.now.stars ≤ most_stars }
     requires names { NamesPass rules.now }
     requires references { ReferencesPass rules.now }
     requires formulas { FormulasPass rules.now }

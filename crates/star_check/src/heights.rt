@@ -1,6 +1,7 @@
 // Heights of STARs: how many stand one above the other.
 ghost use Rattle.std.specs.Prelude.{◌≡◌, ◌≤◌, ◌<◌, length, map, replicate, IfOk};
 ghost use Rattle.std.specs.List.{fold, All};
+ghost use Rattle.star_model.specs.Limits.{most_stars};
 ghost use Rattle.star_model.specs.Vectors.{same_numbers};
 ghost use Rattle.star_model.specs.Accepted.{references_in, references_of, height_of};
 ghost use Rattle.star_check.specs.Findings.{IsFirstFound};
@@ -36,7 +37,8 @@ fn greater(stars: &[StarDef], heights: &[u32], height: u32, name: &Name) -> u32
 #[tactic(auto, using(crate::proofs::Walks::walks, star_model::specs::AcceptedEquations::references_in_cases))]
 fn greatest(stars: &[StarDef], heights: &[u32], plan: &PlanExpr, height: u32) -> u32
     requires { length heights.now ≡ length stars.now }
-    ensures { result ≡ fold (λ h r. greater stars.now heights.now h r.0) height (references_in plan.now) }
+    ensures { result ≡ fold (λ h r. greater stars.now heights.now h r.0) height
+        (references_in plan.now) }
 {
     match plan {
         PlanExpr::Reference { star, args: _ } => greater(stars, heights, height, star),
@@ -67,7 +69,8 @@ fn greatest(stars: &[StarDef], heights: &[u32], plan: &PlanExpr, height: u32) ->
 
 fn greatest_of_references(stars: &[StarDef], heights: &[u32], star: &StarDef) -> u32
     requires { length heights.now ≡ length stars.now }
-    ensures { result ≡ fold (λ h r. greater stars.now heights.now h r.0) 0 (references_of star.now) }
+    ensures { result ≡ fold (λ h r. greater stars.now heights.now h r.0) 0
+        (references_of star.now) }
 {
     let mut height = 0;
     for alternative in star.alternatives.as_slice() {
@@ -79,7 +82,7 @@ fn greatest_of_references(stars: &[StarDef], heights: &[u32], star: &StarDef) ->
 // The STAR's height, where those of the STARs that it refers to are these.
 fn next_height(stars: &[StarDef], heights: &[u32], star: &StarDef) -> u32
     requires long { length heights.now ≡ length stars.now }
-    requires low { All (λ h. h ≤ 64) heights.now }
+    requires low { All (λ h. h ≤ most_stars) heights.now }
     ensures { result ≡ next_height stars.now heights.now star.now }
 {
     1 + greatest_of_references(stars, heights, star)
@@ -87,7 +90,7 @@ fn next_height(stars: &[StarDef], heights: &[u32], star: &StarDef) -> u32
 
 fn next_heights(alloc: Global, stars: &[StarDef], heights: &[u32]) -> Result<Vec<u32>, AllocError>
     requires long { length heights.now ≡ length stars.now }
-    requires low { All (λ h. h ≤ 64) heights.now }
+    requires low { All (λ h. h ≤ most_stars) heights.now }
     ensures { IfOk result (λ next. next.items ≡ map (next_height stars.now heights.now) stars.now) }
 {
     let mut next = Vec::new(alloc);
@@ -109,10 +112,10 @@ fn are_same(heights: &[u32], others: &[u32]) -> bool
     heights == others
 }
 
-/// The height of each STAR. No path without a cycle is longer than the number of STARs, so that many rounds are enough; after one that
-/// changes nothing no other does.
+/// The height of each STAR. No path without a cycle is longer than the number of STARs, so that
+/// many rounds are enough; after one that changes nothing no other does.
 pub fn heights(alloc: Global, rules: &RuleFile) -> Result<Vec<u32>, AllocError>
-    requires few { length rules.now.stars ≤ 64 }
+    requires few { length rules.now.stars ≤ most_stars }
     requires own { NamesAreOwn rules.now }
     requires known { NamesAreKnown rules.now }
     ensures { IfOk result (λ heights. heights.items ≡ map (height_of rules.now) rules.now.stars) }

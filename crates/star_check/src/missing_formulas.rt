@@ -54,7 +54,8 @@ fn body_uses(flavour: Flavour, plan: &PlanExpr) -> bool
 }
 
 fn alternatives_use(flavour: Flavour, alternatives: &[Alternative]) -> bool
-    ensures { result ≡ list_any (λ a. list_any (λ o. same_flavour flavour o.0) (operators_in a.body)) alternatives.now }
+    ensures { result ≡ list_any (λ a. list_any (λ o. same_flavour flavour o.0)
+        (operators_in a.body)) alternatives.now }
 {
     alternatives
         .iter()
@@ -62,7 +63,9 @@ fn alternatives_use(flavour: Flavour, alternatives: &[Alternative]) -> bool
 }
 
 fn stars_use(flavour: Flavour, stars: &[StarDef]) -> bool
-    ensures { result ≡ list_any (λ s. list_any (λ a. list_any (λ o. same_flavour flavour o.0) (operators_in a.body)) s.alternatives) stars.now }
+    ensures { result ≡ list_any (λ s. list_any
+        (λ a. list_any (λ o. same_flavour flavour o.0) (operators_in a.body)) s.alternatives)
+        stars.now }
 {
     stars.iter().any(|star| alternatives_use(flavour, star.alternatives.as_slice()))
 }
@@ -93,7 +96,8 @@ fn is_used(rules: &RuleFile, flavour: Flavour) -> bool
 }
 
 fn has_formula(formulas: &[FormulaDef], flavour: Flavour, which: Which) -> bool
-    ensures { result ≡ list_any (λ d. same_flavour d.flavour flavour && same_which d.which which) formulas.now }
+    ensures { result ≡ list_any (λ d. same_flavour d.flavour flavour && same_which d.which which)
+        formulas.now }
 {
     formulas.iter().any(|definition| {
         same_flavour(definition.flavour, flavour) && same_which(definition.which, which)
@@ -101,7 +105,10 @@ fn has_formula(formulas: &[FormulaDef], flavour: Flavour, which: Which) -> bool
 }
 
 fn lacks_one(formulas: &[FormulaDef], flavour: Flavour) -> bool
-    ensures { result ≡ (not (list_any (λ d. same_flavour d.flavour flavour && same_which d.which which.Cost) formulas.now) || not (list_any (λ d. same_flavour d.flavour flavour && same_which d.which which.Rescan) formulas.now)) }
+    ensures { result ≡ (not (list_any (λ d. same_flavour d.flavour flavour
+        && same_which d.which which.Cost) formulas.now)
+        || not (list_any (λ d. same_flavour d.flavour flavour && same_which d.which which.Rescan)
+        formulas.now)) }
 {
     !has_formula(formulas, flavour, Which::Cost) || !has_formula(formulas, flavour, Which::Rescan)
 }

@@ -1,6 +1,7 @@
 // Which STARs each STAR reaches by references: Warshall's closure over rows of bits.
 ghost use Rattle.std.specs.Prelude.{◌≡◌, ℕ, ◌<◌, ◌≤◌, ◌&&◌, ◌||◌, nat_eq, length, IfOk};
 ghost use Rattle.std.specs.List.{list_any};
+ghost use Rattle.star_model.specs.Limits.{most_stars};
 ghost use Rattle.star_model.specs.Sets.{has};
 ghost use Rattle.star_model.specs.Vectors.{same_numbers};
 ghost use Rattle.star_model.specs.Accepted.{references_in};
@@ -53,7 +54,7 @@ fn refers(star: &StarDef, name: &Name) -> bool
 /// Whether the row has the position.
 #[tactic(auto, using(crate::proofs::Rows::shifted), unfolding(star_model::specs::Sets::has))]
 pub fn has(row: u64, position: usize) -> bool
-    requires { position < 64 }
+    requires { position < most_stars }
     ensures { result ≡ has row position }
 {
     row >> position & 1 == 1
@@ -62,14 +63,14 @@ pub fn has(row: u64, position: usize) -> bool
 // The row with the position too, where it counts.
 #[tactic(auto, using(crate::proofs::Rows::set_bit))]
 fn with_position(row: u64, position: usize, counts: bool) -> u64
-    requires { position < 64 }
+    requires { position < most_stars }
     ensures { (k : ℕ) → has result k ≡ (has row k || (counts && nat_eq k position)) }
 {
     if counts { row | 1 << position } else { row }
 }
 
 fn direct_row(stars: &[StarDef], star: &StarDef) -> u64
-    requires { length stars.now ≤ 64 }
+    requires { length stars.now ≤ most_stars }
     ensures { (j : ℕ) → has result j ≡ refers_to stars.now star.now j }
 {
     let mut row = 0;
@@ -80,7 +81,7 @@ fn direct_row(stars: &[StarDef], star: &StarDef) -> u64
 }
 
 fn direct_rows(alloc: Global, stars: &[StarDef]) -> Result<Vec<u64>, AllocError>
-    requires { length stars.now ≤ 64 }
+    requires { length stars.now ≤ most_stars }
     ensures { IfOk result (λ rows. AreDirect stars.now rows.items) }
 {
     let mut rows = Vec::new(alloc);
@@ -92,7 +93,7 @@ fn direct_rows(alloc: Global, stars: &[StarDef]) -> Result<Vec<u64>, AllocError>
 
 #[tactic(auto, unfolding(star_model::specs::Sets::union))]
 fn joined(row: u64, through: usize, via: u64) -> u64
-    requires { through < 64 }
+    requires { through < most_stars }
     ensures { result ≡ joined row through via }
 {
     if has(row, through) { row | via } else { row }
@@ -100,7 +101,7 @@ fn joined(row: u64, through: usize, via: u64) -> u64
 
 fn join_through(rows: &mut [u64], through: usize)
     requires within { through < length rows.old }
-    requires few { length rows.old ≤ 64 }
+    requires few { length rows.old ≤ most_stars }
     ensures { rows.new ≡ joined_through through rows.old }
 {
     let via = rows[through];
@@ -110,7 +111,7 @@ fn join_through(rows: &mut [u64], through: usize)
 }
 
 fn join_all(rows: &mut [u64])
-    requires { length rows.old ≤ 64 }
+    requires { length rows.old ≤ most_stars }
     ensures { rows.new ≡ joined_below (length rows.old) rows.old }
 {
     for through in 0..rows.len() {
@@ -120,7 +121,7 @@ fn join_all(rows: &mut [u64])
 
 /// The rows of the STARs in the order of the file: which positions each STAR reaches.
 pub fn reached(alloc: Global, rules: &RuleFile) -> Result<Vec<u64>, AllocError>
-    requires few { length rules.now.stars ≤ 64 }
+    requires few { length rules.now.stars ≤ most_stars }
     requires own { NamesAreOwn rules.now }
     ensures { IfOk result (λ rows. AreReached rules.now rows.items) }
 {

@@ -46,7 +46,8 @@ fn ranges_recur(ranges: &[ForAll]) -> bool
 }
 
 fn ranges_are_parameters(params: &[Param], ranges: &[ForAll]) -> bool
-    ensures { result ≡ list_any (λ f. list_any (λ p. same_numbers f.name p.name) params.now) ranges.now }
+    ensures { result ≡ list_any (λ f. list_any (λ p. same_numbers f.name p.name) params.now)
+        ranges.now }
 {
     ranges.iter().any(|each| is_parameter(params, &each.name))
 }
@@ -65,14 +66,16 @@ fn some_ranges_repeat(params: &[Param], alternatives: &[Alternative]) -> bool
 
 // Whether an earlier statement defines the STAR.
 fn is_defined_before(stars: &[StarDef], star: &StarDef) -> bool
-    ensures { result ≡ list_any (λ t. nat_lt t.statement star.now.statement && same_numbers t.name star.now.name) stars.now }
+    ensures { result ≡ list_any (λ t. nat_lt t.statement star.now.statement
+        && same_numbers t.name star.now.name) stars.now }
 {
     stars.iter().any(|other| other.statement < star.statement && same_name(&other.name, &star.name))
 }
 
 // Whether a name among the parameters and the for-all names is there twice.
 fn names_repeat(star: &StarDef) -> bool
-    ensures { result ≡ (recurs (λ p. p.name) star.now.params || list_any (λ a. ranges_repeat star.now.params a.ranges) star.now.alternatives) }
+    ensures { result ≡ (recurs (λ p. p.name) star.now.params
+        || list_any (λ a. ranges_repeat star.now.params a.ranges) star.now.alternatives) }
 {
     let params = star.params.as_slice();
     parameters_recur(params) || some_ranges_repeat(params, star.alternatives.as_slice())
@@ -86,7 +89,9 @@ fn is_star_twice(rules: &RuleFile, star: &StarDef) -> bool
 }
 
 fn defines_before(other: &FormulaDef, definition: &FormulaDef) -> bool
-    ensures { result ≡ (nat_lt other.now.statement definition.now.statement && same_flavour other.now.flavour definition.now.flavour && same_which other.now.which definition.now.which) }
+    ensures { result ≡ (nat_lt other.now.statement definition.now.statement
+        && same_flavour other.now.flavour definition.now.flavour
+        && same_which other.now.which definition.now.which) }
 {
     other.statement < definition.statement
         && other.flavour == definition.flavour
@@ -104,7 +109,8 @@ fn is_formula_twice(rules: &RuleFile, definition: &FormulaDef) -> bool
 }
 
 fn weighs_before(other: &SelectDef, definition: &SelectDef) -> bool
-    ensures { result ≡ (nat_lt other.now.statement definition.now.statement && same_class other.now.class definition.now.class) }
+    ensures { result ≡ (nat_lt other.now.statement definition.now.statement
+        && same_class other.now.class definition.now.class) }
 {
     other.statement < definition.statement && other.class == definition.class
 }

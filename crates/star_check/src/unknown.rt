@@ -42,7 +42,8 @@ fn refers_unknown(rules: &RuleFile, plan: &PlanExpr) -> bool
 }
 
 fn refer_unknown(rules: &RuleFile, alternatives: &[Alternative]) -> bool
-    ensures { result ≡ list_any (λ a. list_any (λ r. is_none (star_named rules.now r.0)) (references_in a.body)) alternatives.now }
+    ensures { result ≡ list_any (λ a. list_any (λ r. is_none (star_named rules.now r.0))
+        (references_in a.body)) alternatives.now }
 {
     alternatives
         .iter()
@@ -164,7 +165,8 @@ fn alternative_is_strange(alternative: &Alternative) -> bool
 }
 
 fn alternatives_are_strange(alternatives: &[Alternative]) -> bool
-    ensures { result ≡ list_any (λ a. list_any is_strange (values_of_alternative a)) alternatives.now }
+    ensures { result ≡ list_any (λ a. list_any is_strange (values_of_alternative a))
+        alternatives.now }
 {
     alternatives.iter().any(alternative_is_strange)
 }

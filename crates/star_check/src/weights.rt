@@ -1,6 +1,7 @@
 // Weights of STARs: how many plans their alternatives may give, at the least.
 ghost use Rattle.std.specs.Prelude.{◌≡◌, length, map, replicate, IfOk};
 ghost use Rattle.std.specs.List.{fold};
+ghost use Rattle.star_model.specs.Limits.{most_weight};
 ghost use Rattle.star_model.specs.Numbers.{cut_sum};
 ghost use Rattle.star_model.specs.Vectors.{same_numbers};
 ghost use Rattle.star_model.specs.Accepted.{references_in, weight_of};
@@ -29,7 +30,8 @@ fn weight_among(stars: &[StarDef], weights: &[Num], name: &Name) -> Num
 #[tactic(auto, using(crate::proofs::Walks::walks, star_model::specs::AcceptedEquations::references_in_cases))]
 fn with_references(stars: &[StarDef], weights: &[Num], plan: &PlanExpr, sum: Num) -> Num
     requires { length weights.now ≡ length stars.now }
-    ensures { result ≡ fold (λ x r. cut_sum x (size_among stars.now weights.now r.0)) sum (references_in plan.now) }
+    ensures { result ≡ fold (λ x r. cut_sum x (size_among stars.now weights.now r.0)) sum
+        (references_in plan.now) }
 {
     match plan {
         PlanExpr::Reference { star, args: _ } => cap_add(sum, weight_among(stars, weights, star)),
@@ -94,8 +96,8 @@ fn are_same(weights: &[Num], others: &[Num]) -> bool
     weights == others
 }
 
-/// The weight of each STAR. No path without a cycle is longer than the number of STARs, so that many rounds are enough; after one that
-/// changes nothing no other does.
+/// The weight of each STAR. No path without a cycle is longer than the number of STARs, so that
+/// many rounds are enough; after one that changes nothing no other does.
 pub fn weights(alloc: Global, rules: &RuleFile) -> Result<Vec<Num>, AllocError>
     requires { NamesAreOwn rules.now }
     ensures { IfOk result (λ weights. weights.items ≡ map (weight_of rules.now) rules.now.stars) }
@@ -116,7 +118,7 @@ pub fn weights(alloc: Global, rules: &RuleFile) -> Result<Vec<Num>, AllocError>
 const MOST: u64 = 4096;
 
 fn too_wide(statement: u32, weight: Num) -> Option<Found<Num>>
-    ensures { result ≡ found_over 4096 statement weight }
+    ensures { result ≡ found_over most_weight statement weight }
 {
     if weight.get() > MOST {
         Some(Found {

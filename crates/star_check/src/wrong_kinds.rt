@@ -1,4 +1,5 @@
-// Statements with a value of another kind than its place asks, or with a root's parameters of other kinds.
+// Statements with a value of another kind than its place asks, or with a root's parameters of other
+// kinds.
 ghost use Rattle.std.specs.Prelude.{◌≡◌, not, ◌||◌, map, true, IfOk};
 ghost use Rattle.std.specs.List.{list_all};
 ghost use Rattle.std.specs.Option.{option_map_or};
@@ -58,7 +59,8 @@ fn alternative_has_kinds(
     params: &[Param],
     alternative: &Alternative,
 ) -> Result<bool, AllocError>
-    ensures { IfOk result (λ has. has ≡ alternative_has_kinds rules.now (map (λ p. p.kind) params.now) alternative.now) }
+    ensures { IfOk result (λ has. has ≡ alternative_has_kinds rules.now
+        (map (λ p. p.kind) params.now) alternative.now) }
 {
     match kinds_after(alloc, params, alternative.ranges.as_slice())? {
         None => Ok(false),
@@ -74,7 +76,9 @@ fn alternatives_have_kinds(
     rules: &RuleFile,
     star: &StarDef,
 ) -> Result<bool, AllocError>
-    ensures { IfOk result (λ have. have ≡ list_all (alternative_has_kinds rules.now (map (λ p. p.kind) star.now.params)) star.now.alternatives) }
+    ensures { IfOk result (λ have. have ≡ list_all
+        (alternative_has_kinds rules.now (map (λ p. p.kind) star.now.params))
+        star.now.alternatives) }
 {
     let params = star.params.as_slice();
     for alternative in star.alternatives.as_slice() {

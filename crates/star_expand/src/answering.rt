@@ -62,7 +62,8 @@ fn plans_of_query(
     }
 }
 
-/// A plan of least cost of the query under the rules, with a derivation of it; none where the query has no plan.
+/// A plan of least cost of the query under the rules, with a derivation of it; none where the query
+/// has no plan.
 pub fn best(alloc: Global, rules: &CheckedRules, query: &Query) -> Result<Option<Best>, AllocError>
     requires { WellFormedQuery query.now }
     ensures { IfOk result (IsChosen query.now rules.now) }
@@ -71,7 +72,8 @@ pub fn best(alloc: Global, rules: &CheckedRules, query: &Query) -> Result<Option
     choose(alloc, rules, query, &plans)
 }
 
-/// The vectors on the frontier of the query's goal, each once, in the order of their lines; none where the query has no plan.
+/// The vectors on the frontier of the query's goal, each once, in the order of their lines; none
+/// where the query has no plan.
 pub fn frontier(
     alloc: Global,
     rules: &CheckedRules,

@@ -24,8 +24,9 @@ use star_search::goal_plans;
 use std::alloc::{AllocError, Global};
 use table_set_memo::Memo;
 
-/// Adds the goal's set to the memo, and those of all goals that it asks for, as far as the memo doesn't hold them. Where memory is wanting,
-/// the sets that were added are right, and a second call goes on from there.
+/// Adds the goal's set to the memo, and those of all goals that it asks for, as far as the memo
+/// doesn't hold them. Where memory is wanting, the sets that were added are right, and a second
+/// call goes on from there.
 pub fn expand<'a>(
     alloc: Global,
     rules: &'a CheckedRules,
@@ -93,7 +94,8 @@ fn plans_for<'a>(
     requires frontiers { HoldsFrontiers query.now rules.now memo.now }
     requires asked { HoldsAsked query.now rules.now memo.now goal.now }
     requires shared { HoldsShared query.now rules.now tables.old }
-    ensures best { IfOk result (IsBestOf query.now rules.now (ForGoal goal.now.tables goal.now.pushed)) }
+    ensures best { IfOk result (IsBestOf query.now rules.now
+        (ForGoal goal.now.tables goal.now.pushed)) }
     ensures shared { HoldsShared query.now rules.now tables.new }
 {
     let search = Search {
@@ -137,7 +139,8 @@ fn fill<'a>(
     Ok(())
 }
 
-// The same of one split. Each turn the memo has more goals, and the next that is missing is looked for in the split from its start.
+// The same of one split. Each turn the memo has more goals, and the next that is missing is looked
+// for in the split from its start.
 #[cycle(expand)]
 fn fill_split<'a>(
     alloc: Global,
@@ -158,7 +161,9 @@ fn fill_split<'a>(
     ensures closed { IsClosed query.now rules.now memo.new }
     ensures grows { Grows query.now rules.now goal.now memo.old memo.new }
     ensures shared { HoldsShared query.now rules.now tables.new }
-    ensures asked { OnOk result (FirstMissing memo.new (AsksFrom query.now rules.now (root_call goal.now.tables goal.now.pushed (Some split))) None) }
+    ensures asked { OnOk result (FirstMissing memo.new
+        (AsksFrom query.now rules.now (root_call goal.now.tables goal.now.pushed (Some split)))
+        None) }
 {
     rules.stands();
     let (left, right) = split;

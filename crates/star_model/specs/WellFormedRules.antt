@@ -1,6 +1,7 @@
 -- Well-formed rule files: operators have the form and the arguments of their flavours, variables have their places, and counts are limited.
 use Rattle.std.specs.Prelude.{◌≡◌, ℕ, ◌+◌, ◌≤◌, Bool, true, false, not, ◌&&◌, ◌||◌, max, min, List, [], ◌∷◌, ◌++◌, length, map, nat_eq, nat_lt, codes, unwrap_or, Option, Some, None}
 use Rattle.std.specs.List.{list_all}
+use Rattle.star_model.specs.Limits.{most_alternatives, most_nesting, most_nodes, most_parameters, most_ranges, most_stars, no_place}
 use Rattle.star_model.specs.Every.{Every, HasItem}
 use Rattle.star_model.specs.Names.{place_of, is_among}
 use Rattle.star_model.specs.Kinds.{argument_kinds, inputs_of}
@@ -67,7 +68,7 @@ with_name scope name = record { version = scope.version; names = scope.names ++ 
 
 -- the place of a name among those that may be used, and 255 where it isn't one of the first 255
 abbrev pub place_among : List (List ℕ) → List ℕ → ℕ
-place_among scope name = min 255 (unwrap_or (place_of name scope) 255)
+place_among scope name = min no_place (unwrap_or (place_of name scope) no_place)
 
 -- Each variable has a name that isn't reserved, and the place of this name among those that may be used.
 unfoldable pub IsValue : Scope → ValueExpr → Type 0
@@ -162,7 +163,7 @@ pub record IsStar (version : ℕ) (s : StarDef) : Type 0 where
   pub alternatives : Every (IsAlternative (scope_of_star version s)) s.alternatives
 
 abbrev pub HasFewRanges : Alternative → Type 0
-HasFewRanges a = length a.ranges ≤ 2
+HasFewRanges a = length a.ranges ≤ most_ranges
 
 -- how many operators, references and Glue stand inside one another
 unfoldable pub nesting : PlanExpr → ℕ
@@ -173,11 +174,11 @@ nesting (expr.Unary f arguments input) = 1 + nesting input
 nesting (expr.Binary f arguments left right) = 1 + max (nesting left) (nesting right)
 
 abbrev pub IsShallow : Alternative → Type 0
-IsShallow a = nesting a.body ≤ 8
+IsShallow a = nesting a.body ≤ most_nesting
 
 pub record KeepsStarLimits (s : StarDef) : Type 0 where
-  pub parameters : length s.params ≤ 8
-  pub alternatives : length s.alternatives ≤ 16
+  pub parameters : length s.params ≤ most_parameters
+  pub alternatives : length s.alternatives ≤ most_alternatives
   pub ranges : Every HasFewRanges s.alternatives
   pub bodies : Every IsShallow s.alternatives
 
@@ -206,7 +207,7 @@ names_only may f = list_all (names_at_top may) (nodes f)
 -- a formula with such variables, of few nodes
 pub record IsFormula (may : Var → Bool) (f : Formula) : Type 0 where
   pub variables : names_only may f ≡ true
-  pub few_nodes : length (nodes f) ≤ 256
+  pub few_nodes : length (nodes f) ≤ most_nodes
 
 -- in a rule file of this version
 pub record IsFormulaDef (version : ℕ) (d : FormulaDef) : Type 0 where
@@ -233,6 +234,6 @@ pub record WellFormedRules (rules : RuleFile) : Type 0 where
   pub numbers_differ : differ nat_eq (statement_numbers rules) ≡ true
   pub selects : Every IsSelectDef rules.selects
   pub formulas : Every (IsFormulaDef rules.version) rules.formulas
-  pub few_stars : length rules.stars ≤ 64
+  pub few_stars : length rules.stars ≤ most_stars
   pub stars : Every (IsStar rules.version) rules.stars
   pub limits : Every KeepsStarLimits rules.stars

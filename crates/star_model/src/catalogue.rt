@@ -116,7 +116,8 @@ pub struct IndexDef {
     pub pages: Num,
 }
 
-/// What is known of the tables. The numbers are estimates, and need not agree with the tables' files.
+/// What is known of the tables. The numbers are estimates, and need not agree with the tables'
+/// files.
 #[derive(Drop)]
 pub struct Catalogue {
     /// At most 8 in an accepted catalogue.

@@ -3,6 +3,7 @@
 ghost use Rattle.std.specs.Prelude.{◌≡◌, ◌<◌, ◌≤◌, [], ◌∷◌, ◌++◌, length, IsOk, ◌↔◌, OnOk, OnErr, IfErr, replicate};
 ghost use Rattle.star_model.specs.Columns.{has_column, with_column, union_columns, is_columns_within};
 ghost use Rattle.std.specs.List.{list_any};
+ghost use Rattle.star_model.specs.Limits.{most_columns, most_in_order, most_quantifiers};
 ghost use Rattle.star_model.specs.Sets.{is_within};
 ghost use Rattle.star_model.specs.Vectors.{begins, same_column};
 
@@ -56,14 +57,14 @@ impl ColList {
 
     pub fn as_slice(&self) -> &[Col]
         ensures value { result.now ≡ self.now }
-        ensures room { length result.now ≤ 16 }
+        ensures room { length result.now ≤ most_in_order }
     {
         self.cols.as_slice()
     }
 
     /// Adds the column at the end, or gives it back where there are 16.
     pub fn try_push(&mut self, item: Col) -> Result<(), Col>
-        ensures variant { IsOk result ↔ (length self.old < 16) }
+        ensures variant { IsOk result ↔ (length self.old < most_in_order) }
         ensures ok { OnOk result (self.new ≡ self.old ++ item ∷ []) }
         ensures err { OnErr result (self.new ≡ self.old) }
         ensures given_back { IfErr result (λ c. c ≡ item) }
@@ -111,7 +112,7 @@ fn starts_with(cols: &[Col], prefix: &[Col]) -> bool
 }
 
 fn copy_of(cols: &[Col]) -> ColList
-    requires { length cols.now ≤ 16 }
+    requires { length cols.now ≤ most_in_order }
     ensures { result ≡ cols.now }
 {
     let mut copy = ColList::new();
@@ -159,8 +160,8 @@ impl ColSet {
 
     /// Adds the column.
     pub fn insert(&mut self, col: Col)
-        requires quant { col.quant.0 < 12 }
-        requires column { col.column < 32 }
+        requires quant { col.quant.0 < most_quantifiers }
+        requires column { col.column < most_columns }
         ensures { self.new ≡ with_column self.old col }
     {
         self.masks[col.quant.0 as usize] |= 1 << col.column;

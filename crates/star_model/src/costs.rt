@@ -54,7 +54,8 @@ impl Costs {
         formula: Formula,
     ) -> Result<(), AllocError>
         requires { formula_of self.old flavour which ≡ None }
-        ensures ok { OnOk result (self.new ≡ self.old ++ record { flavour = flavour; which = which; formula = formula } ∷ []) }
+        ensures ok { OnOk result (self.new ≡ self.old
+            ++ record { flavour = flavour; which = which; formula = formula } ∷ []) }
         ensures err { OnErr result (self.new ≡ self.old) }
     {
         self.entries.push(CostEntry {

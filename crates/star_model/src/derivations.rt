@@ -10,8 +10,8 @@ use arrayvec::ArrayVec;
 use sqlite_items::Boxed;
 use std::marker::Model;
 
-/// The for-all values of a reference as they are printed: at most 2, each the number of an index, site, quantifier or predicate,
-/// from 1.
+/// The for-all values of a reference as they are printed: at most 2, each the number of an index,
+/// site, quantifier or predicate, from 1.
 #[derive(Drop)]
 pub struct ForAllValues {
     numbers: ArrayVec<u32, 2>,
@@ -82,7 +82,8 @@ fn copy_of(numbers: &[u32]) -> ForAllValues
     copy
 }
 
-/// A derivation. A whole one is a `Glue` node. It may name anything: whether it is valid is a matter of the rules and the query.
+/// A derivation. A whole one is a `Glue` node. It may name anything: whether it is valid is a
+/// matter of the rules and the query.
 #[derive(Drop)]
 pub enum Deriv {
     /// The operators of Glue over a goal node.
@@ -90,7 +91,8 @@ pub enum Deriv {
         chain: Chain,
         goal: Boxed<Deriv>,
     },
-    /// A goal, derived through a reference to a root STAR. A goal of several quantifiers has a split.
+    /// A goal, derived through a reference to a root STAR. A goal of several quantifiers has a
+    /// split.
     Goal {
         goal: Goal,
         split: Option<(QuantSet, QuantSet)>,

@@ -40,8 +40,8 @@ pub enum LimitKind {
     OrderBy,
 }
 
-/// Why a rule file is refused: the first of these, in this order, over the whole file. A number alone is the first statement
-/// that has the fault.
+/// Why a rule file is refused: the first of these, in this order, over the whole file. A number
+/// alone is the first statement that has the fault.
 #[derive(Clone, Copy, Debug, PartialEq, Eq)]
 pub enum RuleFault {
     /// No token begins at this byte, counted from 0.

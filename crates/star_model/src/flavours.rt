@@ -1,4 +1,5 @@
-// How operators, costs, kinds and classes of predicates are written in rule files, derivations and messages.
+// How operators, costs, kinds and classes of predicates are written in rule files, derivations and
+// messages.
 
 ghost use Rattle.std.specs.Prelude.{◌≡◌};
 ghost use Rattle.star_model.specs.FlavourWords.{flavour_word, which_word, kind_word, class_word, flavour_of, flavour_in, is_flavour_of, kind_of_word, class_of_word};

@@ -26,7 +26,8 @@ pub enum Var {
     Net,
     /// Always 1.
     One,
-    /// Distinct values of a predicate's left column. This and the next three stand in selectivities only.
+    /// Distinct values of a predicate's left column. This and the next three stand in selectivities
+    /// only.
     Distinct1,
     /// Rows of the left column's table.
     Rows1,
@@ -66,7 +67,8 @@ pub enum Formula {
 /// What the variables of a formula stand for, but `One`.
 #[derive(Clone, Copy, Debug, PartialEq, Eq)]
 pub struct Vars {
-    /// Cost of the first production of the first input; 0 where there is none. Likewise the next three.
+    /// Cost of the first production of the first input; 0 where there is none. Likewise the next
+    /// three.
     pub cost1: Num,
     /// Cost of each further production.
     pub rescan1: Num,

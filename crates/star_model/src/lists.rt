@@ -49,7 +49,8 @@ impl<T> List<T> {
 
     /// The item at this position, to be changed in place, if there is one.
     pub fn get_mut(&mut self, at: usize) -> Option<&mut T>
-        ensures* writes_back { sem 𝓛 (LendsIf (the_row T.row) T.row self.entry result (λ item. slice_set self.entry.now at item) self.entry.now) }
+        ensures* writes_back { sem 𝓛 (LendsIf (the_row T.row) T.row self.entry result
+            (λ item. slice_set self.entry.now at item) self.entry.now) }
         ensures variant { IsSome result ↔ (at < length self.old) }
         ensures value { IfSome result (λ item. item.now ≡ slice_index_or self.old at item.now) }
     {
@@ -130,7 +131,8 @@ impl Bytes {
     }
 }
 
-/// A name of the user's: a word of 1 to 64 letters, digits and underscores once its file is accepted.
+/// A name of the user's: a word of 1 to 64 letters, digits and underscores once its file is
+/// accepted.
 #[derive(Debug, Drop)]
 pub struct Name {
     letters: Vec<u8>,

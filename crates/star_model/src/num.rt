@@ -7,8 +7,9 @@ use std::marker::Model;
 
 const TOP: u64 = 1_000_000_000_000_000_000;
 
-/// A number from 0 to 10^18: a cost in cost units, a count of rows or pages, a width in bytes, or a weight of a site.
-/// What would be greater is 10^18, so no estimate wraps, and plans beyond the bound tie.
+/// A number from 0 to 10^18: a cost in cost units, a count of rows or pages, a width in bytes, or a
+/// weight of a site. What would be greater is 10^18, so no estimate wraps, and plans beyond the
+/// bound tie.
 #[derive(Clone, Copy, Debug, PartialEq, Eq, PartialOrd, Ord)]
 pub struct Num {
     value: u64,

@@ -9,7 +9,8 @@ use arrayvec::ArrayVec;
 use sqlite_items::Boxed;
 use std::marker::Model;
 
-/// What is required of a stream's plans. An empty order or path, no site, and no temporary require nothing.
+/// What is required of a stream's plans. An empty order or path, no site, and no temporary require
+/// nothing.
 #[derive(Drop)]
 pub struct Require {
     pub order: ColList,
@@ -105,7 +106,8 @@ pub enum Plan {
     },
 }
 
-/// Quantifiers whose plans are wanted, with the predicates on others that they are to apply beside their own.
+/// Quantifiers whose plans are wanted, with the predicates on others that they are to apply beside
+/// their own.
 #[derive(Clone, Copy, Debug, PartialEq, Eq, PartialOrd, Ord, Hash)]
 pub struct Goal {
     pub tables: QuantSet,

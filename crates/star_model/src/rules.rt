@@ -43,8 +43,8 @@ pub enum Kind {
 /// An expression for a value. The parts stand in the order of the spelling.
 #[derive(Drop)]
 pub enum ValueExpr {
-    /// A parameter or for-all name. `place` is its place among the names that may be used here, the parameters first and then
-    /// the for-all names; 255 where it is none of them.
+    /// A parameter or for-all name. `place` is its place among the names that may be used here, the
+    /// parameters first and then the for-all names; 255 where it is none of them.
     Variable { name: Name, place: u8 },
     /// `T[order C]`
     WithOrder(Boxed<ValueExpr>, Boxed<ValueExpr>),
@@ -101,7 +101,8 @@ pub enum Condition {
     Or(Boxed<Condition>, Boxed<Condition>),
 }
 
-/// The body of an alternative: a reference to a STAR, a call of Glue, or an operator over none, one or two plans.
+/// The body of an alternative: a reference to a STAR, a call of Glue, or an operator over none, one
+/// or two plans.
 #[derive(Drop)]
 pub enum PlanExpr {
     Reference {

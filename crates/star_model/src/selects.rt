@@ -46,10 +46,12 @@ impl Selects {
         }
     }
 
-    /// Adds the formulas of a class. Where memory is wanting, the map stays and both formulas are dropped.
+    /// Adds the formulas of a class. Where memory is wanting, the map stays and both formulas are
+    /// dropped.
     pub fn put(&mut self, class: Class, num: Formula, den: Formula) -> Result<(), AllocError>
         requires { select_of self.old class ≡ None }
-        ensures ok { OnOk result (self.new ≡ self.old ++ record { class = class; num = num; den = den } ∷ []) }
+        ensures ok { OnOk result (self.new ≡ self.old
+            ++ record { class = class; num = num; den = den } ∷ []) }
         ensures err { OnErr result (self.new ≡ self.old) }
     {
         self.entries.push(SelectEntry { class, num, den })?;

@@ -18,7 +18,8 @@ use star_model::rules::ValueExpr;
 use star_value::{Env, glued_goal};
 use std::alloc::{AllocError, Global};
 
-/// The plans that Glue makes of the set that the memo has for its goal, which it makes once for all places that ask for the same.
+/// The plans that Glue makes of the set that the memo has for its goal, which it makes once for all
+/// places that ask for the same.
 pub fn glued_plans(
     alloc: Global,
     search: &Search<'_>,
@@ -30,7 +31,8 @@ pub fn glued_plans(
     requires open { IsOpen search.now }
     requires leads { LeadsTo search.now (Expression (plain.Glue stream.now preds.now) env.now) }
     requires shared { HoldsShared search.now.query.now search.now.rules.now tables.old }
-    ensures best { IfOk result (IsBestOf search.now.query.now search.now.rules.now (Expression (plain.Glue stream.now preds.now) env.now)) }
+    ensures best { IfOk result (IsBestOf search.now.query.now search.now.rules.now
+        (Expression (plain.Glue stream.now preds.now) env.now)) }
     ensures shared { HoldsShared search.now.query.now search.now.rules.now tables.new }
 {
     let required = star_value::stream(stream, env, search.query);
@@ -78,7 +80,8 @@ pub fn keep_plans(
     plans: &SharedSet,
     tables: &mut Tables,
 ) -> Result<(), AllocError>
-    requires best { IsBestOf search.now.query.now search.now.rules.now (Call star.now env.now) plans.now }
+    requires best { IsBestOf search.now.query.now search.now.rules.now (Call star.now env.now)
+        plans.now }
     requires shared { HoldsShared search.now.query.now search.now.rules.now tables.old }
     ensures { HoldsShared search.now.query.now search.now.rules.now tables.new }
 {

@@ -1,5 +1,5 @@
-// The plans of the places to which a goal leads. Each function's recursion goes down: references lead to lower STARs, and the inputs of
-// a body nest less deep.
+// The plans of the places to which a goal leads. Each function's recursion goes down: references
+// lead to lower STARs, and the inputs of a body nest less deep.
 
 ghost use Rattle.std.specs.Prelude.{[], ◌∷◌, IfOk, OnOk};
 ghost use Rattle.star_model.specs.Expected.{Call, Expression};
@@ -34,7 +34,8 @@ pub fn plans_of(
     requires open { IsOpen search.now }
     requires leads { LeadsTo search.now (Expression expr.now env.now) }
     requires shared { HoldsShared search.now.query.now search.now.rules.now tables.old }
-    ensures best { IfOk result (IsBestOf search.now.query.now search.now.rules.now (Expression expr.now env.now)) }
+    ensures best { IfOk result (IsBestOf search.now.query.now search.now.rules.now
+        (Expression expr.now env.now)) }
     ensures shared { HoldsShared search.now.query.now search.now.rules.now tables.new }
 {
     search.rules.stands();
@@ -75,7 +76,8 @@ pub fn plans_of(
     }
 }
 
-// The best plans of a STAR to which a body refers, which are kept for the next reference to it with the same values.
+// The best plans of a STAR to which a body refers, which are kept for the next reference to it with
+// the same values.
 #[cycle(search)]
 fn plans_of_reference(
     alloc: Global,
@@ -87,7 +89,8 @@ fn plans_of_reference(
     requires open { IsOpen search.now }
     requires leads { LeadsTo search.now (Call star.now env.now) }
     requires shared { HoldsShared search.now.query.now search.now.rules.now tables.old }
-    ensures best { IfOk result (IsBestOf search.now.query.now search.now.rules.now (Call star.now env.now)) }
+    ensures best { IfOk result (IsBestOf search.now.query.now search.now.rules.now
+        (Call star.now env.now)) }
     ensures shared { HoldsShared search.now.query.now search.now.rules.now tables.new }
 {
     if let Some(plans) = tables.references.find_shared(star, env) {
@@ -111,7 +114,8 @@ pub fn plans_of_call(
     requires open { IsOpen search.now }
     requires leads { LeadsTo search.now (Call star.now env.now) }
     requires shared { HoldsShared search.now.query.now search.now.rules.now tables.old }
-    ensures best { IfOk result (IsBestOf search.now.query.now search.now.rules.now (Call star.now env.now)) }
+    ensures best { IfOk result (IsBestOf search.now.query.now search.now.rules.now
+        (Call star.now env.now)) }
     ensures shared { HoldsShared search.now.query.now search.now.rules.now tables.new }
 {
     search.rules.stands();
@@ -153,10 +157,12 @@ fn add_ranges(
     out: &mut PlanSet<Entry>,
 ) -> Result<(), AllocError>
     requires open { IsOpen search.now }
-    requires within { IsWithin search.now part.now.star.now part.now.number part.now.alternative.now ranges.now picked.now env.now }
+    requires within { IsWithin search.now part.now.star.now part.now.number part.now.alternative.now
+        ranges.now picked.now env.now }
     requires shared { HoldsShared search.now.query.now search.now.rules.now tables.old }
     ensures gathered { OnOk result (Gathers is_better_plan out.old out.new
-        (RangesWay search.now.query.now search.now.rules.now part.now.star.now part.now.number part.now.alternative.now ranges.now picked.now env.now)) }
+        (RangesWay search.now.query.now search.now.rules.now part.now.star.now part.now.number
+        part.now.alternative.now ranges.now picked.now env.now)) }
     ensures shared { HoldsShared search.now.query.now search.now.rules.now tables.new }
 {
     match ranges {
@@ -181,10 +187,12 @@ fn add_members(
     out: &mut PlanSet<Entry>,
 ) -> Result<(), AllocError>
     requires open { IsOpen search.now }
-    requires within { IsWithin search.now part.now.star.now part.now.number part.now.alternative.now (first.now ∷ more.now) picked.now env.now }
+    requires within { IsWithin search.now part.now.star.now part.now.number part.now.alternative.now
+        (first.now ∷ more.now) picked.now env.now }
     requires shared { HoldsShared search.now.query.now search.now.rules.now tables.old }
     ensures gathered { OnOk result (Gathers is_better_plan out.old out.new
-        (RangesWay search.now.query.now search.now.rules.now part.now.star.now part.now.number part.now.alternative.now (first.now ∷ more.now) picked.now env.now)) }
+        (RangesWay search.now.query.now search.now.rules.now part.now.star.now part.now.number
+        part.now.alternative.now (first.now ∷ more.now) picked.now env.now)) }
     ensures shared { HoldsShared search.now.query.now search.now.rules.now tables.new }
 {
     for (number, member) in numbered(&first.range, env, search.query) {
@@ -195,7 +203,8 @@ fn add_members(
     Ok(())
 }
 
-// The same where all names are bound: if the condition holds, the plans of the body, each referred to.
+// The same where all names are bound: if the condition holds, the plans of the body, each referred
+// to.
 #[cycle(search)]
 fn add_body(
     alloc: Global,
@@ -207,10 +216,12 @@ fn add_body(
     out: &mut PlanSet<Entry>,
 ) -> Result<(), AllocError>
     requires open { IsOpen search.now }
-    requires within { IsWithin search.now part.now.star.now part.now.number part.now.alternative.now [] picked.now env.now }
+    requires within { IsWithin search.now part.now.star.now part.now.number part.now.alternative.now
+        [] picked.now env.now }
     requires shared { HoldsShared search.now.query.now search.now.rules.now tables.old }
     ensures gathered { OnOk result (Gathers is_better_plan out.old out.new
-        (RangesWay search.now.query.now search.now.rules.now part.now.star.now part.now.number part.now.alternative.now [] picked.now env.now)) }
+        (RangesWay search.now.query.now search.now.rules.now part.now.star.now part.now.number
+        part.now.alternative.now [] picked.now env.now)) }
     ensures shared { HoldsShared search.now.query.now search.now.rules.now tables.new }
 {
     search.rules.stands();

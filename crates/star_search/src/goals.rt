@@ -20,8 +20,8 @@ use star_model::sets::QuantSet;
 use star_value::root_values;
 use std::alloc::{AllocError, Global};
 
-/// The best plans of the search's goal: of all that is derived for it, what nothing else may stand in place of. What the tables hold isn't
-/// made again, for this goal and others.
+/// The best plans of the search's goal: of all that is derived for it, what nothing else may stand
+/// in place of. What the tables hold isn't made again, for this goal and others.
 pub fn goal_plans(
     alloc: Global,
     search: &Search<'_>,
@@ -29,7 +29,8 @@ pub fn goal_plans(
 ) -> Result<PlanSet<Entry>, AllocError>
     requires open { IsOpen search.now }
     requires shared { HoldsShared search.now.query.now search.now.rules.now tables.old }
-    ensures best { IfOk result (IsBestOf search.now.query.now search.now.rules.now (ForGoal search.now.goal.tables search.now.goal.pushed)) }
+    ensures best { IfOk result (IsBestOf search.now.query.now search.now.rules.now
+        (ForGoal search.now.goal.tables search.now.goal.pushed)) }
     ensures shared { HoldsShared search.now.query.now search.now.rules.now tables.new }
 {
     let target = Target::of_goal(search.query, search.goal);
@@ -56,7 +57,9 @@ fn add_splits(
     requires several { nat_eq (size search.now.goal.tables) 1 ≡ false }
     requires shared { HoldsShared search.now.query.now search.now.rules.now tables.old }
     ensures gathered { OnOk result (Gathers is_better_plan out.old out.new
-        (From (splits search.now.goal.tables) (λ p. SplitWay search.now.query.now search.now.rules.now search.now.goal.tables search.now.goal.pushed (Some p)))) }
+        (From (splits search.now.goal.tables)
+        (λ p. SplitWay search.now.query.now search.now.rules.now search.now.goal.tables
+        search.now.goal.pushed (Some p)))) }
     ensures shared { HoldsShared search.now.query.now search.now.rules.now tables.new }
 {
     for split in search.goal.tables.splits() {
@@ -79,7 +82,8 @@ fn add_split(
     requires split { may_split search.now.goal.tables split.now ≡ true }
     requires shared { HoldsShared search.now.query.now search.now.rules.now tables.old }
     ensures gathered { OnOk result (Gathers is_better_plan out.old out.new
-        (SplitWay search.now.query.now search.now.rules.now search.now.goal.tables search.now.goal.pushed split.now)) }
+        (SplitWay search.now.query.now search.now.rules.now search.now.goal.tables
+        search.now.goal.pushed split.now)) }
     ensures shared { HoldsShared search.now.query.now search.now.rules.now tables.new }
 {
     search.rules.stands();

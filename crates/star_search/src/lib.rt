@@ -1,4 +1,5 @@
-//! The search for the best plans of one goal, over a memo that has the sets of the goals for which it asks.
+//! The search for the best plans of one goal, over a memo that has the sets of the goals for which
+//! it asks.
 #![tactic(auto)]
 
 mod arms;

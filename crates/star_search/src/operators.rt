@@ -26,7 +26,8 @@ pub fn over_nothing(
     env: &Env,
 ) -> Result<SharedSet, AllocError>
     requires { WellFormedQuery search.now.query.now }
-    ensures { IfOk result (IsFrontier is_better_plan (LeafWay search.now.query.now (costs_of search.now.rules.now) flavour args.now env.now)) }
+    ensures { IfOk result (IsFrontier is_better_plan
+        (LeafWay search.now.query.now (costs_of search.now.rules.now) flavour args.now env.now)) }
 {
     let op = operator(flavour, args, env, search.query);
     let plans = leaf_plans(alloc, search.query, search.rules.costs(), &op)?;
@@ -43,8 +44,9 @@ pub fn over_one(
     inputs: &PlanSet<Entry>,
 ) -> Result<SharedSet, AllocError>
     requires { WellFormedQuery search.now.query.now }
-    ensures { IfOk result (IsFrontier is_better_plan (From inputs.now
-        (OverOne search.now.query.now (costs_of search.now.rules.now) flavour (operator_of flavour (values_of search.now.query.now env.now args.now))))) }
+    ensures { IfOk result (IsFrontier is_better_plan
+        (From inputs.now (OverOne search.now.query.now (costs_of search.now.rules.now) flavour
+        (operator_of flavour (values_of search.now.query.now env.now args.now))))) }
 {
     let op = operator(flavour, args, env, search.query);
     let plans = unary_plans(alloc, search.query, search.rules.costs(), &op, inputs)?;
@@ -62,8 +64,10 @@ pub fn over_two(
     rights: &PlanSet<Entry>,
 ) -> Result<SharedSet, AllocError>
     requires { WellFormedQuery search.now.query.now }
-    ensures { IfOk result (IsFrontier is_better_plan (From lefts.now (λ l. From rights.now
-        (OverTwo search.now.query.now (costs_of search.now.rules.now) flavour (operator_of flavour (values_of search.now.query.now env.now args.now)) l)))) }
+    ensures { IfOk result (IsFrontier is_better_plan
+        (From lefts.now (λ l. From rights.now
+        (OverTwo search.now.query.now (costs_of search.now.rules.now) flavour
+        (operator_of flavour (values_of search.now.query.now env.now args.now)) l)))) }
 {
     let op = operator(flavour, args, env, search.query);
     let costs = search.rules.costs();

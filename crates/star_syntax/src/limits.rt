@@ -167,7 +167,8 @@ pub fn limit_beyond(
 ) -> Option<LimitKind>
     requires tokens { AreTokensOf source.now tokens.now }
     requires nodes { HasFewNodes definition.now }
-    ensures { result ≡ limit_beyond stars (record { lexemes = lexemes_of source.now tokens.now; defines = defined definition.now }) }
+    ensures { result ≡ limit_beyond stars (record
+        { lexemes = lexemes_of source.now tokens.now; defines = defined definition.now }) }
 {
     if has_great_number(source, tokens) {
         return Some(LimitKind::Number);

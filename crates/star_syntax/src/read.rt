@@ -1,5 +1,6 @@
 // Reading a rule file.
 ghost use Rattle.std.specs.Prelude.{◌≤◌, length};
+ghost use Rattle.sb_text.specs.Limits.{most_text_bytes};
 ghost use Rattle.sb_text.specs.Refusal.{AreTokens};
 ghost use Rattle.star_syntax.specs.Faults.{ReadsRules};
 
@@ -11,7 +12,7 @@ use std::alloc::Global;
 
 // The rule file that a text spells, from its tokens.
 fn read_tokens(alloc: Global, source: &[u8], tokens: &[Token]) -> Result<RuleFile, RuleFault>
-    requires size { length source.now ≤ 1048576 }
+    requires size { length source.now ≤ most_text_bytes }
     requires tokens { AreTokens source.now tokens.now }
     ensures { ReadsRules source.now result }
 {
@@ -22,10 +23,11 @@ fn read_tokens(alloc: Global, source: &[u8], tokens: &[Token]) -> Result<RuleFil
     }
 }
 
-/// The rule file that a text spells, or the first of the faults `Lexical`, `TooDeep`, `Syntax` and `Limit`. Each kind of fault is judged
-/// over the whole text before the next, and within a kind the first statement is told. The other faults of rules aren't judged.
+/// The rule file that a text spells, or the first of the faults `Lexical`, `TooDeep`, `Syntax` and
+/// `Limit`. Each kind of fault is judged over the whole text before the next, and within a kind the
+/// first statement is told. The other faults of rules aren't judged.
 pub fn read_rules(alloc: Global, source: &[u8]) -> Result<RuleFile, RuleFault>
-    requires { length source.now ≤ 1048576 }
+    requires { length source.now ≤ most_text_bytes }
     ensures { ReadsRules source.now result }
 {
     match tokens(alloc, source) {

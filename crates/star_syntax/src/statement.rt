@@ -15,7 +15,8 @@ use spelling::Unread;
 use star_model::rules::SelectDef;
 use std::alloc::{AllocError, Global};
 
-// The selectivity that the statement with this number defines, which only rule files of version 2 have.
+// The selectivity that the statement with this number defines, which only rule files of version 2
+// have.
 fn read_select_in(
     alloc: Global,
     source: &[u8],
@@ -24,8 +25,11 @@ fn read_select_in(
     version: u8,
 ) -> Result<Option<SelectDef>, AllocError>
     requires { AreTokensOf source.now tokens.now }
-    ensures some { IfOk result (λ o. IfSome o (λ d. SpellsSelectDef version number (lexemes_of source.now tokens.now) d)) }
-    ensures none { IfOk result (λ o. IfNone o ((d : SelectDef) → SpellsSelectDef version number (lexemes_of source.now tokens.now) d → ⊥)) }
+    ensures some { IfOk result (λ o. IfSome o
+        (λ d. SpellsSelectDef version number (lexemes_of source.now tokens.now) d)) }
+    ensures none { IfOk result (λ o. IfNone o
+        ((d : SelectDef) → SpellsSelectDef version number (lexemes_of source.now tokens.now) d
+        → ⊥)) }
 {
     if version == 2 {
         read_select_def(alloc, source, tokens, number)

@@ -1,5 +1,6 @@
 // The statements of a rule file, one after the other.
 ghost use Rattle.std.specs.Prelude.{◌≡◌, ◌≤◌, length, OnOk};
+ghost use Rattle.sb_text.specs.Limits.{most_text_bytes};
 ghost use Rattle.sb_text.specs.Refusal.{AreTokens};
 ghost use Rattle.sb_text.specs.Statements.{part_of};
 ghost use Rattle.spelling.specs.Cursors.{AreTokensOf, part_said};
@@ -23,8 +24,8 @@ use std::alloc::{AllocError, Global};
 #[derive(Drop)]
 pub struct RulesSoFar {
     pub rules: RuleFile,
-    /// The first statement that goes beyond a limit, with the first limit that it goes beyond. It is told only where all statements
-    /// are understood.
+    /// The first statement that goes beyond a limit, with the first limit that it goes beyond. It
+    /// is told only where all statements are understood.
     pub beyond: Option<(u32, LimitKind)>,
 }
 
@@ -51,7 +52,11 @@ impl RulesSoFar {
     ) -> Option<(u32, LimitKind)>
         requires tokens { AreTokensOf source.now tokens.now }
         requires nodes { HasFewNodes definition.now }
-        ensures { result ≡ limit_so_far self.now number (record { lexemes = lexemes_of source.now tokens.now; defines = defined definition.now }) }
+        ensures { result ≡ limit_so_far self.now number
+            (record {
+              lexemes = lexemes_of source.now tokens.now;
+              defines = defined definition.now;
+            }) }
     {
         match self.beyond {
             Some(found) => Some(found),
@@ -72,7 +77,8 @@ impl RulesSoFar {
         number: u32,
     ) -> Result<(), Unread>
         requires { AreTokensOf source.now statement.now.tokens.now }
-        ensures { StatementRead number (part_said source.now (part_of statement.now)) self.old result self.new }
+        ensures { StatementRead number (part_said source.now (part_of statement.now)) self.old
+            result self.new }
     {
         let version = self.rules.version;
         let definition = read_definition(alloc, source, statement, number, version)?;
@@ -93,13 +99,14 @@ fn said_version(source: &[u8], tokens: &[Token]) -> u8
     }
 }
 
-/// What the statements of a text define, from its tokens. The answer is a fault of the kind `Syntax` or `Memory` otherwise.
+/// What the statements of a text define, from its tokens. The answer is a fault of the kind
+/// `Syntax` or `Memory` otherwise.
 pub fn read_statements(
     alloc: Global,
     source: &[u8],
     tokens: &[Token],
 ) -> Result<RulesSoFar, RuleFault>
-    requires size { length source.now ≤ 1048576 }
+    requires size { length source.now ≤ most_text_bytes }
     requires tokens { AreTokens source.now tokens.now }
     ensures { StatementsRead source.now result }
 {

@@ -12,21 +12,26 @@ ghost use Rattle.star_syntax.specs.Faults.{HasFault, IsFirstFault};
 
 /// One text has at most one first fault.
 pub fn one_fault()
-    ensures { (text : List ℕ) (f g : RuleFault) → IsFirstFault text f → IsFirstFault text g → f ≡ g }
+    ensures { (text : List ℕ) (f g : RuleFault) → IsFirstFault text f → IsFirstFault text g
+        → f ≡ g }
 {}
 
 /// One text says at most one list of statements.
 pub fn one_list_of_statements()
-    ensures { (text : List ℕ) (a b : List RuleStatement) → SaysRules text a → SaysRules text b → a ≡ b }
+    ensures { (text : List ℕ) (a b : List RuleStatement) → SaysRules text a → SaysRules text b
+        → a ≡ b }
 {}
 
-/// A text has no fault whose tokens have none, and whose statements are understood and keep the limits. What it spells is then well
-/// formed, and its words and numbers keep theirs.
+/// A text has no fault whose tokens have none, and whose statements are understood and keep the
+/// limits. What it spells is then well formed, and its words and numbers keep theirs.
 pub fn statements_without_fault_are_read()
-    ensures clear { (text : List ℕ) (statements : List RuleStatement) → fault_of text ≡ None → SaysRules text statements → NoneHas IsBeyond statements
-        → (fault : RuleFault) → HasFault text fault → ⊥ }
-    ensures formed { (text : List ℕ) (rules : RuleFile) (statements : List RuleStatement) → SpellsRules text rules → SaysRules text statements → NoneHas IsBeyond statements
+    ensures clear { (text : List ℕ) (statements : List RuleStatement) → fault_of text ≡ None
+        → SaysRules text statements → NoneHas IsBeyond statements → (fault : RuleFault)
+        → HasFault text fault → ⊥ }
+    ensures formed { (text : List ℕ) (rules : RuleFile) (statements : List RuleStatement)
+        → SpellsRules text rules → SaysRules text statements → NoneHas IsBeyond statements
         → WellFormedRules rules }
-    ensures fits { (text : List ℕ) (rules : RuleFile) (statements : List RuleStatement) → SpellsRules text rules → SaysRules text statements → NoneHas IsBeyond statements
+    ensures fits { (text : List ℕ) (rules : RuleFile) (statements : List RuleStatement)
+        → SpellsRules text rules → SaysRules text statements → NoneHas IsBeyond statements
         → KeepsLexemeLimits rules }
 {}

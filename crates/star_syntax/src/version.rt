@@ -46,7 +46,8 @@ fn says_version(source: &[u8], tokens: &[Token]) -> bool
     }
 }
 
-/// Whether these are the lexemes of the statement that says version 2, in a rule file of this version and with this number.
+/// Whether these are the lexemes of the statement that says version 2, in a rule file of this
+/// version and with this number.
 pub fn is_version_statement(source: &[u8], tokens: &[Token], number: u32, version: u8) -> bool
     requires { AreTokensOf source.now tokens.now }
     ensures { result ≡ is_version_statement version number (lexemes_of source.now tokens.now) }

@@ -1,5 +1,6 @@
-// What stands at the places of a body: streams and predicates of Glue, and operators with the values of their arguments. A value of another
-// kind than its place asks is read as the empty one, as in `value`.
+// What stands at the places of a body: streams and predicates of Glue, and operators with the
+// values of their arguments. A value of another kind than its place asks is read as the empty one,
+// as in `value`.
 
 ghost use Rattle.std.specs.Prelude.{◌≡◌};
 ghost use Rattle.star_model.specs.Expected.{at_index, operator_of, values_of};
@@ -43,7 +44,8 @@ fn argument(args: &[ValueExpr], n: usize, env: &Env, query: &Query) -> RuleValue
     }
 }
 
-/// The operator of this flavour, with what these arguments stand for under the bindings. It takes no memory.
+/// The operator of this flavour, with what these arguments stand for under the bindings. It takes
+/// no memory.
 pub fn operator(flavour: Flavour, args: &[ValueExpr], env: &Env, query: &Query) -> Op
     requires { WellFormedQuery query.now }
     ensures { result ≡ operator_of flavour (values_of query.now env.now args.now) }

@@ -1,6 +1,8 @@
-// The values of a reference's arguments, and the condition of an alternative. None of it takes memory.
+// The values of a reference's arguments, and the condition of an alternative. None of it takes
+// memory.
 
 ghost use Rattle.std.specs.Prelude.{◌≡◌, ◌≤◌, length};
+ghost use Rattle.star_model.specs.Limits.{most_bindings};
 ghost use Rattle.star_model.specs.Expected.{values_of, meets};
 ghost use Rattle.star_model.specs.WellFormed.{WellFormedQuery};
 
@@ -10,10 +12,11 @@ use crate::meaning::value;
 use star_model::query::Query;
 use star_model::rules::{Condition, ValueExpr};
 
-/// The values of a reference's arguments, as bindings of the parameters of the STAR to which it refers.
+/// The values of a reference's arguments, as bindings of the parameters of the STAR to which it
+/// refers.
 pub fn values(args: &[ValueExpr], env: &Env, query: &Query) -> Env
     requires query { WellFormedQuery query.now }
-    requires few { length args.now ≤ 10 }
+    requires few { length args.now ≤ most_bindings }
     ensures { result ≡ values_of query.now env.now args.now }
 {
     let mut values = Env::new();

@@ -1,13 +1,15 @@
 // The bindings of the names that an alternative may use.
 
 ghost use Rattle.std.specs.Prelude.{◌≡◌, ◌<◌, ◌≤◌, [], ◌∷◌, ◌++◌, length, IsOk, ◌↔◌, OnOk, OnErr, IfErr};
+ghost use Rattle.star_model.specs.Limits.{most_bindings};
 
 use crate::copies::copied;
 use arrayvec::ArrayVec;
 use star_model::values::RuleValue;
 use std::marker::Model;
 
-/// The values of a STAR's parameters, and then those of its alternative's for-all names. At most 10: 8 parameters and 2 such names.
+/// The values of a STAR's parameters, and then those of its alternative's for-all names. At most
+/// 10: 8 parameters and 2 such names.
 #[derive(Drop)]
 pub struct Env {
     values: ArrayVec<RuleValue, 10>,
@@ -39,14 +41,14 @@ impl Env {
 
     pub fn as_slice(&self) -> &[RuleValue]
         ensures value { result.now ≡ self.now }
-        ensures room { length result.now ≤ 10 }
+        ensures room { length result.now ≤ most_bindings }
     {
         self.values.as_slice()
     }
 
     /// Binds the next name, or gives the value back where 10 are bound.
     pub fn try_push(&mut self, item: RuleValue) -> Result<(), RuleValue>
-        ensures variant { IsOk result ↔ (length self.old < 10) }
+        ensures variant { IsOk result ↔ (length self.old < most_bindings) }
         ensures ok { OnOk result (self.new ≡ self.old ++ item ∷ []) }
         ensures err { OnErr result (self.new ≡ self.old) }
         ensures given_back { IfErr result (λ v. v ≡ item) }
@@ -68,7 +70,7 @@ impl Env {
 }
 
 fn copy_of(values: &[RuleValue]) -> Env
-    requires { length values.now ≤ 10 }
+    requires { length values.now ≤ most_bindings }
     ensures { result ≡ values.now }
 {
     let mut copy = Env::new();

@@ -9,7 +9,8 @@ use star_model::plans::Goal;
 use star_model::query::Query;
 use star_model::sets::{PredSet, QuantSet};
 
-/// The goal of a Glue over these quantifiers: of the predicates, those that touch the quantifiers and others are pushed.
+/// The goal of a Glue over these quantifiers: of the predicates, those that touch the quantifiers
+/// and others are pushed.
 pub fn glued_goal(query: &Query, tables: QuantSet, preds: PredSet) -> Goal
     requires { WellFormedQuery query.now }
     ensures { goal_of query.now tables preds ≡ ForGoal result.tables result.pushed }

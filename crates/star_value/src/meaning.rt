@@ -28,8 +28,8 @@ fn bound(env: &Env, place: u8) -> RuleValue
 
 /// What the expression stands for under these bindings. It takes no memory.
 ///
-/// A value of another kind than its place asks is read as the empty one, and an unbound name as the empty set of quantifiers. The
-/// recursion goes as deep as the expression nests.
+/// A value of another kind than its place asks is read as the empty one, and an unbound name as the
+/// empty set of quantifiers. The recursion goes as deep as the expression nests.
 #[tactic(auto, using(star_model::specs::MeaningEquations::meaning_cases))]
 pub fn value(expr: &ValueExpr, env: &Env, query: &Query) -> RuleValue
     requires { WellFormedQuery query.now }

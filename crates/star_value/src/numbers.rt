@@ -53,10 +53,12 @@ impl<'q> Iterator for NumberedIter<'q> {
     }
 }
 
-/// The members of the range under these bindings, in its order, each with its number. It takes no memory.
+/// The members of the range under these bindings, in its order, each with its number. It takes no
+/// memory.
 pub fn numbered<'q>(range: &Range, env: &Env, query: &'q Query) -> NumberedIter<'q>
     requires { WellFormedQuery query.now }
-    ensures { result ≡ map (λ n. (n, member_at range.now n)) (numbers_of query.now env.now range.now) }
+    ensures { result ≡ map (λ n. (n, member_at range.now n))
+        (numbers_of query.now env.now range.now) }
 {
     NumberedIter {
         query,

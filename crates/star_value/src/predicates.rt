@@ -14,7 +14,8 @@ use star_model::query::{Operand, Pred, Query};
 use star_model::sets::{PredSet, QuantSet};
 
 fn lies_between(left: QuantSet, right: QuantSet, pred: &Pred) -> bool
-    ensures { result ≡ (touches left pred.now && touches right pred.now && lies_in (union left right) pred.now) }
+    ensures { result ≡ (touches left pred.now && touches right pred.now
+        && lies_in (union left right) pred.now) }
 {
     touches(left, pred) && touches(right, pred) && lies_in(left.union(right), pred)
 }
@@ -51,14 +52,17 @@ pub fn equalities(query: &Query, preds: PredSet) -> PredSet
 
 // Whether it is one of the columns, if its quantifier is in the set.
 fn is_covered(tables: QuantSet, columns: &ColList, column: Col) -> bool
-    ensures { result ≡ (not (has tables column.quant.0) || list_any (same_column column) columns.now) }
+    ensures { result ≡ (not (has tables column.quant.0)
+        || list_any (same_column column) columns.now) }
 {
     !tables.has(column.quant.0) || columns.has(column)
 }
 
 // Whether the predicate touches the set, and its columns of the set are among these.
 fn is_served(tables: QuantSet, columns: &ColList, pred: &Pred) -> bool
-    ensures { result ≡ (touches tables pred.now && list_all (λ c. not (has tables c.quant.0) || list_any (same_column c) columns.now) (columns_of pred.now)) }
+    ensures { result ≡ (touches tables pred.now
+        && list_all (λ c. not (has tables c.quant.0) || list_any (same_column c) columns.now)
+        (columns_of pred.now)) }
 {
     match &pred.right {
         Operand::Column(right) => {
@@ -70,8 +74,8 @@ fn is_served(tables: QuantSet, columns: &ColList, pred: &Pred) -> bool
     }
 }
 
-/// Those of these predicates that touch the set, and whose columns of it are columns of the index at this position. None unless the
-/// set has one quantifier, and the index is on its table.
+/// Those of these predicates that touch the set, and whose columns of it are columns of the index
+/// at this position. None unless the set has one quantifier, and the index is on its table.
 #[tactic(auto, using(crate::proofs::Gathering::gathering))]
 pub fn indexable(query: &Query, tables: QuantSet, index: u8, preds: PredSet) -> PredSet
     requires { WellFormedQuery query.now }

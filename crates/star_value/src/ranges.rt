@@ -138,7 +138,8 @@ impl<'q> Iterator for RangeIter<'q> {
 pub(crate) fn over_of(range: &Range, env: &Env, query: &Query) -> Over
     requires { WellFormedQuery query.now }
     ensures members { members_from query.now result 0 ≡ members_of query.now env.now range.now }
-    ensures numbered { numbered_from query.now result 0 ≡ map (λ n. (n, member_of range.now n)) (numbers_of query.now env.now range.now) }
+    ensures numbered { numbered_from query.now result 0
+        ≡ map (λ n. (n, member_of range.now n)) (numbers_of query.now env.now range.now) }
 {
     match range {
         Range::Indexes(t) => Over::Indexes {

@@ -1,5 +1,5 @@
-// What stands in a value of the kind that a place asks for. A value of another kind is read as the empty one; in the alternatives of
-// checked rules there is none.
+// What stands in a value of the kind that a place asks for. A value of another kind is read as the
+// empty one; in the alternatives of checked rules there is none.
 
 ghost use Rattle.std.specs.Prelude.{◌≡◌};
 ghost use Rattle.star_model.specs.Meaning.{as_stream, as_quants, as_preds, as_cols, as_site, as_index};

@@ -10,8 +10,8 @@ use star_model::plans::{Goal, Require};
 use star_model::sets::QuantSet;
 use star_model::values::{RuleValue, StreamValue};
 
-/// The values of the root STAR's parameters: a stream of each part of the split, or of all the goal's quantifiers, that requires nothing,
-/// and the pushed predicates.
+/// The values of the root STAR's parameters: a stream of each part of the split, or of all the
+/// goal's quantifiers, that requires nothing, and the pushed predicates.
 pub fn root_values(goal: Goal, split: Option<(QuantSet, QuantSet)>) -> Env
     ensures { result ≡ root_values goal.tables goal.pushed split }
 {

@@ -1,4 +1,5 @@
-// Streams: their quantifiers; and with one more thing required, in place of what was required of the same property.
+// Streams: their quantifiers; and with one more thing required, in place of what was required of
+// the same property.
 
 ghost use Rattle.std.specs.Prelude.{◌≡◌, true, Some, slice_index_or};
 ghost use Rattle.star_model.specs.Meaning.{meaning, as_stream, requiring};
@@ -21,7 +22,8 @@ fn bound_tables(env: &Env, place: u8) -> QuantSet
     }
 }
 
-/// The quantifiers of the stream that the expression stands for. What is required of the stream is neither evaluated nor copied.
+/// The quantifiers of the stream that the expression stands for. What is required of the stream is
+/// neither evaluated nor copied.
 #[tactic(auto, using(star_model::specs::MeaningEquations::meaning_cases))]
 pub fn tables_of(expr: &ValueExpr, env: &Env) -> QuantSet
     ensures { (q : Query) → result ≡ (as_stream (meaning q env.now expr.now)).tables }

@@ -1,15 +1,16 @@
 -- A command on its way along its files.
-use Rattle.std.proofs.Common.{◌≡◌, ◌+◌, ◌++◌, ℕ, List, [], ◌∷◌, length, take, Option, Some, refl, ap, arith, false, string_bytes}
+use Rattle.std.proofs.Common.{◌≡◌, ◌+◌, ◌++◌, ℕ, List, [], ◌∷◌, length, take, Option, Some, refl, ap, inl, arith, false, string_bytes}
 use Rattle.std.specs.Prelude.{slice_get}
 use Rattle.sb_outside.specs.Shelf.{Files, ShelfState, Goes, NoFault, TellsBytes}
 use Rattle.sb_outside.proofs.Laws.{no_call, goes_on, no_fault_on, fails_on}
 use Rattle.stars_core.specs.declared.refusal.Refusal.{Refusal}
-use Rattle.stars_core.specs.declared.refusal.Refusal.TheVariants.{Usage, Unread, Refused, NotDerived, Memory}
+use Rattle.stars_core.specs.declared.refusal.Refusal.TheVariants.{Usage, Unread, Refused, Table, NotDerived, Memory}
 use Rattle.stars_core.specs.declared.command.Command.{Command}
 use Rattle.stars_core.specs.CommandLine.{Request}
 use Rattle.stars_core.specs.Given.{Given}
 use Rattle.stars_core.specs.Faults.{Stops, Passes}
-use Rattle.stars_core.specs.Shelves.{HeldAs, NotTaken, RanInto, CameAlong}
+use Rattle.stars_core.specs.Shelves.{HeldAs, NotTaken, CameAlong}
+use Rattle.stars_core.specs.Composing.{RanInto}
 use Rattle.stars_core.proofs.FaultLaws.{pass_more}
 
 at_length : (front later : List Request) (this : Request) → slice_get (front ++ this ∷ later) (length front) ≡ Some this
@@ -42,7 +43,8 @@ module _ (before mid now : ShelfState) (front later : List Request) (this : Requ
       → ((bytes line : List ℕ) → P bytes line → Stops earlier (this.0, bytes) line) → NotTaken P mid now this refusal → RanInto command before now (front ++ this ∷ later) refusal
   stopped command P Usage along goes stops not = not
   stopped command P (Unread line) along goes stops not =
-      let by = along.by in (
+      let by = along.by in
+      inl (
         length front,
         this,
         earlier,
@@ -67,6 +69,7 @@ module _ (before mid now : ShelfState) (front later : List Request) (this : Requ
           too_long = λ long. let rose = taken.too_long long in omega arith;
         },
       )
+  stopped command P (Table line) along goes stops not = absurd not
   stopped command P (NotDerived line) along goes stops not = absurd not
   stopped command P Memory along goes stops not = tt
 

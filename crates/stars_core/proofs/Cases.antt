@@ -7,7 +7,7 @@ use Rattle.star_model.specs.declared.rules.RuleFile.{RuleFile}
 use Rattle.star_model.specs.declared.derivations.Deriv.{Deriv}
 use Rattle.stars_core.specs.declared.refusal.TextKind.TheVariants.{Rules, Catalogue, Query, Derivation}
 use Rattle.stars_core.specs.declared.refusal.Refusal.{Refusal}
-use Rattle.stars_core.specs.declared.refusal.Refusal.TheVariants.{Usage, Unread, Refused, NotDerived, Memory}
+use Rattle.stars_core.specs.declared.refusal.Refusal.TheVariants.{Usage, Unread, Refused, Table, NotDerived, Memory}
 use Rattle.stars_core.specs.declared.command.Command.{Command}
 use Rattle.stars_core.specs.CommandLine.{Request, three_requests, four_requests}
 use Rattle.stars_core.specs.Given.{Given, Over}
@@ -15,7 +15,8 @@ use Rattle.stars_core.specs.Faults.{PassAll}
 use Rattle.stars_core.specs.Judging.{Refuses, RulesPass, CataloguePasses, QueryPasses, DerivationPasses, StopsAlways, StopsOver}
 use Rattle.stars_core.specs.Saying.{three, four}
 use Rattle.stars_core.specs.Judged.{NotAnswered}
-use Rattle.stars_core.specs.Shelves.{NotTaken, RanInto, CameAlong}
+use Rattle.stars_core.specs.Shelves.{NotTaken, CameAlong}
+use Rattle.stars_core.specs.Composing.{RanInto}
 use Rattle.stars_core.proofs.Along.{starts, stopped, goes_along}
 use Rattle.stars_core.proofs.FaultLaws.{rules_pass, catalogue_passes, query_passes, derivation_passes, pass_more}
 
@@ -31,6 +32,7 @@ pub rules_not : (command : Command) (r : List ℕ) (later : List Given) (refusal
 rules_not command r later Usage p = p
 rules_not command r later (Unread line) p = p
 rules_not command r later (Refused kind line) p = rw p.0 (p.1 [])
+rules_not command r later (Table line) p = p
 rules_not command r later (NotDerived line) p = absurd p
 rules_not command r later Memory p = tt
 
@@ -39,6 +41,7 @@ pub catalogue_not : (command : Command) (r c : List ℕ) (later : List Given) (r
 catalogue_not command r c later repertoire Usage rules p = p
 catalogue_not command r c later repertoire (Unread line) rules p = p
 catalogue_not command r c later repertoire (Refused kind line) rules p = rw p.0 (rules_pass r repertoire rules [], p.1 ((Rules, r) ∷ []))
+catalogue_not command r c later repertoire (Table line) rules p = p
 catalogue_not command r c later repertoire (NotDerived line) rules p = absurd p
 catalogue_not command r c later repertoire Memory rules p = tt
 
@@ -48,6 +51,7 @@ query_not command r c q later repertoire catalogue Usage rules pass p = p
 query_not command r c q later repertoire catalogue (Unread line) rules pass p = p
 query_not command r c q later repertoire catalogue (Refused kind line) rules pass p =
     rw p.0 (rules_pass r repertoire rules [], (catalogue_passes c catalogue pass ((Rules, r) ∷ []), p.1 ((Rules, r) ∷ (Catalogue, c) ∷ []) (over r c catalogue pass)))
+query_not command r c q later repertoire catalogue (Table line) rules pass p = p
 query_not command r c q later repertoire catalogue (NotDerived line) rules pass p = absurd p
 query_not command r c q later repertoire catalogue Memory rules pass p = tt
 
@@ -58,6 +62,7 @@ pub derivation_not : (command : Command) (r c q d : List ℕ) (refusal : Refusal
 derivation_not command r c q d Usage all p = absurd p
 derivation_not command r c q d (Unread line) all p = absurd p
 derivation_not command r c q d (Refused kind line) all p = rw p.0 (all.0, (all.1.0, (all.1.1.0, p.1 (three r c q))))
+derivation_not command r c q d (Table line) all p = absurd p
 derivation_not command r c q d (NotDerived line) all p = absurd p
 derivation_not command r c q d Memory all p = tt
 

@@ -1,8 +1,10 @@
 -- What follows from the answer of the top call.
-use Rattle.std.proofs.Common.{◌≡◌, ◌++◌, ℕ, List, [], ◌∷◌, take, Option, None, Some, refl, ap, sym, ◌∙◌, subst, inl, inr, zero, suc}
+use Rattle.std.proofs.Common.{◌≡◌, ◌⊎◌, ◌++◌, ℕ, true, List, [], ◌∷◌, take, Option, None, Some, refl, ap, sym, ◌∙◌, subst, inl, inr, zero, suc}
 use Rattle.std.specs.Prelude.{slice_get}
 use Rattle.std.proofs.lemmas.List.{append-nil, append_assoc}
+use Rattle.sb_outside.specs.Counts.{Rose}
 use Rattle.sb_outside.specs.Shelf.{Files, ShelfState}
+use Rattle.sb_outside.proofs.Laws.{fails_on}
 use Rattle.sb_outside.specs.Sink.{SinkState}
 use Rattle.stars_core.specs.declared.command.Command.{Command}
 use Rattle.stars_core.specs.declared.command.Command.TheVariants as commands
@@ -16,10 +18,19 @@ use Rattle.stars_core.specs.CommandLine.{CommandLine, Request, command_of, reque
 use Rattle.stars_core.specs.Lines.{refused_status}
 use Rattle.stars_core.specs.Given.{Given}
 use Rattle.stars_core.specs.Faults.{Stops, PassAll}
-use Rattle.stars_core.specs.Saying.{Saying, Says, AnswerText, Denied, IsDenied}
-use Rattle.stars_core.specs.Shelves.{HeldAs, RefusedAt, IsAnswered, Puts}
-use Rattle.stars_core.specs.Answers.{OfCommand, Answered, Complete, AllTold, Ends, RefusedExactly, StopTold, LinePut}
-use Rattle.stars_core.proofs.Says.{one_reading}
+use Rattle.stars_core.specs.Saying.{Saying, Says, SaysCase, AnswerText, Denied, IsDenied, text_at}
+use Rattle.stars_core.specs.Shelves.{HeldAs, UnreadAt, RefusedAt}
+use Rattle.stars_core.specs.Plan.{HasPlan}
+use Rattle.stars_core.specs.Running.{SaysOf, CameToTables, TableUnreadAt, TableRefusedAt}
+use Rattle.stars_core.specs.Composing.{IsAnswered, Puts}
+use Rattle.stars_core.specs.Answers.{OfCommand, Answered, LinePut}
+use Rattle.stars_core.specs.Told.{Complete, AllTold, TablesTold, Ends, RefusedExactly, StopTold}
+use Rattle.star_model.specs.declared.rules.RuleFile.{RuleFile}
+use Rattle.star_model.specs.declared.query.Query.{Query as QueryTree}
+use Rattle.table_taking.specs.QueryTables.{file_of}
+use Rattle.table_taking.specs.Taking as tables
+use Rattle.table_taking.proofs.Laws.{told_not_refused}
+use Rattle.stars_core.proofs.Says.{one_case, one_reading}
 use Rattle.stars_core.proofs.FaultLaws.{one_stop, stopped_passes}
 use Rattle.plan_choice.proofs.Laws.{some_listed}
 
@@ -101,7 +112,7 @@ refused_none kind shelf shelf' requests line files given t told held pass =
     none_stops files [] requests given t.0 t.1 t.2 t.3 line held pass t.4.here (rw told at t.4.held) (rw told at t.6.told) t.6.stops
 
 -- what is held by the names of some requests is one list of texts
-same_texts : (files : Files) (requests : List Request) (given other : List Given) → HeldAs (Some files) requests given → HeldAs (Some files) requests other → given ≡ other
+pub same_texts : (files : Files) (requests : List Request) (given other : List Given) → HeldAs (Some files) requests given → HeldAs (Some files) requests other → given ≡ other
 same_texts files [] [] [] held held' = refl
 same_texts files [] [] (h ∷ other) held held' = absurd held'
 same_texts files [] (g ∷ given) other held held' = absurd held
@@ -112,19 +123,21 @@ same_texts files (a ∷ requests) (g ∷ given) (h ∷ other) held held' =
     let later : given ≡ other = same_texts files requests given other held.2 held'.2 in cc
 
 -- what is answered of told texts is answered of what they say
-same_answer : (command : Command) (files : Files) (requests : List Request) (given : List Given) (saying : Saying command) (ending : Ending) (text : List ℕ)
-    → HeldAs (Some files) requests given → Says command given saying → IsAnswered command (Some files) requests ending text
-    → AnswerText command saying ending text
-same_answer command files requests given saying ending text held says a =
-    let is = a.3 in
+pub same_answer : (command : Command) (files : Files) (requests : List Request) (given : List Given) (saying : Saying command) (ending : Ending) (pieces : List (List ℕ))
+    → HeldAs (Some files) requests given → Says command given saying → IsAnswered command (Some files) requests ending pieces
+    → (text : List ℕ) × AnswerText command saying ending text
+same_answer command files requests given saying ending pieces held says a =
+    let text = a.3.text in
+    let is = a.3.answer in
     let texts : a.0 ≡ given = same_texts files requests a.0 given a.1 held in
     let says' : Says command given is.saying = subst (λ (g : List Given). Says command g is.saying) texts is.says in
-    subst (λ (x : Saying command). AnswerText command x ending text) (one_reading command given is.saying saying says' says) is.answer
+    (text, subst (λ (x : Saying command). AnswerText command x ending text) (one_reading command given is.saying saying says' says) is.answer)
 
 -- what has to be put where the command is done
 done_ends : (command : Command) (given : List Given) (saying : Saying command) (text : List ℕ) → Says command given saying → AnswerText command saying endings.Done text → Ends command saying Done
 done_ends commands.Check given rules text says answer = refl
 done_ends commands.Plan given saying text says answer = inl (refl, answer.0, answer.1, answer.2.root)
+done_ends commands.Run given saying text says answer = inl (refl, answer.0, answer.1, answer.2.root)
 done_ends commands.Frontier given saying text says answer =
     let root = some_listed saying.1 saying.0 says.formed says.of_rules.accepted answer.0 answer.1 answer.2 in inl (refl, root.0, root.1, root.2)
 done_ends commands.Verify given saying text says answer = inl (refl, answer.1, answer.2)
@@ -133,6 +146,7 @@ done_ends commands.Verify given saying text says answer = inl (refl, answer.1, a
 none_ends : (command : Command) (saying : Saying command) (text : List ℕ) → AnswerText command saying endings.NoPlan text → Ends command saying NoPlan
 none_ends commands.Check rules text answer = let e : endings.NoPlan ≡ endings.Done = answer.0 in absurd cc
 none_ends commands.Plan saying text answer = inr (refl, answer.0)
+none_ends commands.Run saying text answer = inr (refl, answer.0)
 none_ends commands.Frontier saying text answer = inr (refl, answer.0)
 none_ends commands.Verify saying text answer = let e : endings.NoPlan ≡ endings.Done = answer.0 in absurd cc
 
@@ -140,6 +154,7 @@ none_ends commands.Verify saying text answer = let e : endings.NoPlan ≡ ending
 denied_ends : (command : Command) (saying : Saying command) (line : List ℕ) → Denied command saying line → Ends command saying NotDerived
 denied_ends commands.Check rules line denied = absurd denied
 denied_ends commands.Plan saying line denied = absurd denied
+denied_ends commands.Run saying line denied = absurd denied
 denied_ends commands.Frontier saying line denied = absurd denied
 denied_ends commands.Verify saying line denied = inr (refl, denied.no_root)
 
@@ -152,55 +167,109 @@ same_denial command files requests given other saying line held held' says is =
     subst (λ (x : Saying command). Denied command x line) (one_reading command given is.saying saying says' says) is.denied
 
 -- a text that is refused where all that are asked for are accepted
-refused_told : (kind : TextKind) (words : CommandLine) (shelf shelf' : ShelfState) (line : List ℕ) (command : Command) (given : List Given) (saying : Saying command)
+pub refused_told : (kind : TextKind) (words : CommandLine) (shelf shelf' : ShelfState) (line : List ℕ) (command : Command) (given : List Given) (saying : Saying command)
     → AllTold words shelf command given saying → OfCommand words (λ c. RefusedAt shelf shelf' (requests_of c words) kind line) → ⊥
 refused_told kind words shelf shelf' line command given saying told refused =
     refused_none kind shelf shelf' (requests_of command words) line told.files given (rw told.listed at refused) told.told told.held told.accepted
 
+-- where the shelf failed at a file, its count of faults rose
+pub unread_rose : (command : Command) (shelf shelf' : ShelfState) (requests : List Request) (line : List ℕ)
+    → UnreadAt shelf shelf' requests line ⊎ TableUnreadAt command shelf shelf' requests line → Rose shelf.faults shelf'.faults
+unread_rose command shelf shelf' requests line (inl u) = u.4.rose
+unread_rose commands.Run shelf shelf' requests line (inr u) = (fails_on shelf u.0 shelf' (true, file_of u.2 u.4.1) u.3.quiet u.4.3).rose
+unread_rose commands.Check shelf shelf' requests line (inr u) = absurd u
+unread_rose commands.Plan shelf shelf' requests line (inr u) = absurd u
+unread_rose commands.Frontier shelf shelf' requests line (inr u) = absurd u
+unread_rose commands.Verify shelf shelf' requests line (inr u) = absurd u
+
+-- what told texts say is one case
+pub same_case : (files : Files) (requests : List Request) (given : List Given) (saying : Saying commands.Run) (rules : RuleFile) (query : QueryTree)
+    → HeldAs (Some files) requests given → Says commands.Run given saying → SaysOf (Some files) requests rules query → (rules ≡ saying.0) × (query ≡ saying.1)
+same_case files requests given saying rules query held says of =
+    let texts : of.given ≡ given = same_texts files requests of.given given of.held held in
+    let says' = subst (λ (g : List Given). SaysCase (text_at g 0) (text_at g 1) (text_at g 2) rules query) texts of.says in
+    one_case (text_at given 0) (text_at given 1) (text_at given 2) rules saying.0 query saying.1 says' says
+
+-- a run came to its tables by texts that say its case
+pub same_tables : (files : Files) (shelf mid : ShelfState) (requests : List Request) (given : List Given) (saying : Saying commands.Run) (rules : RuleFile) (query : QueryTree)
+    → shelf.held ≡ Some files → HeldAs (Some files) requests given → Says commands.Run given saying → CameToTables shelf mid requests rules query
+    → (mid.held ≡ Some files) × (rules ≡ saying.0) × (query ≡ saying.1)
+same_tables files shelf mid requests given saying rules query told held says came =
+    let of = subst (λ (x : Option Files). SaysOf x requests rules query) told came.case_ in
+    let same = same_case files requests given saying rules query held says of in (came.by.held ∙ told, same.0, same.1)
+
+-- no table is refused where those that are told hold rows
+no_table_refused : (command : Command) (words : CommandLine) (shelf shelf' : ShelfState) (line : List ℕ) (given : List Given) (saying : Saying command)
+    → (told : AllTold words shelf command given saying) → TablesTold command told.files saying → TableRefusedAt command shelf shelf' (requests_of command words) line → ⊥
+no_table_refused commands.Run words shelf shelf' line given saying told holds t =
+    let same = same_tables told.files shelf t.0 (requests_of commands.Run words) given saying t.1 t.2 told.told told.held told.says t.3 in
+    let plan = subst (λ (r : RuleFile). HasPlan r saying.1) same.1 (subst (λ (q : QueryTree). HasPlan t.1 q) same.2 t.3.planned) in
+    let refused = subst (λ (q : QueryTree). tables.RefusedAt q t.0 shelf' line) same.2 t.4 in
+    told_not_refused saying.1 told.files t.0 shelf' line same.0 (holds plan) refused
+no_table_refused commands.Check words shelf shelf' line given saying told holds t = t
+no_table_refused commands.Plan words shelf shelf' line given saying told holds t = t
+no_table_refused commands.Frontier words shelf shelf' line given saying told holds t = t
+no_table_refused commands.Verify words shelf shelf' line given saying told holds t = t
+
 pub complete : (status : Status) (words : CommandLine) (shelf shelf' : ShelfState) (out out' err err' : SinkState) → Answered status words shelf shelf' out out' err err'
     → Complete status words shelf shelf' out out'
-complete Done words shelf shelf' out out' err err' answered command given saying told quiet_shelf quiet_out =
+complete Done words shelf shelf' out out' err err' answered command given saying told holds quiet_shelf quiet_out =
     let a = rw told.listed at answered in
-    let b = subst (λ (x : Option Files). IsAnswered command x (requests_of command words) endings.Done a.2.0) told.told a.2.1 in
-    inr (done_ends command given saying a.2.0 told.says (same_answer command told.files (requests_of command words) given saying endings.Done a.2.0 told.held told.says b))
-complete NoPlan words shelf shelf' out out' err err' answered command given saying told quiet_shelf quiet_out =
+    let b = subst (λ (x : Option Files). IsAnswered command x (requests_of command words) endings.Done a.1) told.told a.2 in
+    let x = same_answer command told.files (requests_of command words) given saying endings.Done a.1 told.held told.says b in
+    inr (done_ends command given saying x.0 told.says x.1)
+complete NoPlan words shelf shelf' out out' err err' answered command given saying told holds quiet_shelf quiet_out =
     let a = rw told.listed at answered in
-    let b = subst (λ (x : Option Files). IsAnswered command x (requests_of command words) endings.NoPlan a.2.0) told.told a.2.1 in
-    inr (none_ends command saying a.2.0 (same_answer command told.files (requests_of command words) given saying endings.NoPlan a.2.0 told.held told.says b))
-complete Usage words shelf shelf' out out' err err' answered command given saying told quiet_shelf quiet_out =
+    let b = subst (λ (x : Option Files). IsAnswered command x (requests_of command words) endings.NoPlan a.1) told.told a.2 in
+    let x = same_answer command told.files (requests_of command words) given saying endings.NoPlan a.1 told.held told.says b in
+    inr (none_ends command saying x.0 x.1)
+complete Usage words shelf shelf' out out' err err' answered command given saying told holds quiet_shelf quiet_out =
     let e : Some command ≡ None = sym told.listed ∙ answered.2.0 in absurd cc
-complete RulesRefused words shelf shelf' out out' err err' answered command given saying told quiet_shelf quiet_out =
+complete RulesRefused words shelf shelf' out out' err err' answered command given saying told holds quiet_shelf quiet_out =
     absurd (refused_told kinds.Rules words shelf shelf' answered.1 command given saying told answered.2)
-complete CatalogueRefused words shelf shelf' out out' err err' answered command given saying told quiet_shelf quiet_out =
+complete CatalogueRefused words shelf shelf' out out' err err' answered command given saying told holds quiet_shelf quiet_out =
     absurd (refused_told kinds.Catalogue words shelf shelf' answered.1 command given saying told answered.2)
-complete QueryRefused words shelf shelf' out out' err err' answered command given saying told quiet_shelf quiet_out =
+complete QueryRefused words shelf shelf' out out' err err' answered command given saying told holds quiet_shelf quiet_out =
     absurd (refused_told kinds.Query words shelf shelf' answered.1 command given saying told answered.2)
-complete ReadFault words shelf shelf' out out' err err' answered command given saying told quiet_shelf quiet_out =
-    let u = rw told.listed at answered.2 in absurd (quiet_shelf u.4.rose)
-complete WriteFault words shelf shelf' out out' err err' answered command given saying told quiet_shelf quiet_out =
+complete ReadFault words shelf shelf' out out' err err' answered command given saying told holds quiet_shelf quiet_out =
+    absurd (quiet_shelf (unread_rose command shelf shelf' (requests_of command words) answered.1 (rw told.listed at answered.2)))
+complete WriteFault words shelf shelf' out out' err err' answered command given saying told holds quiet_shelf quiet_out =
     let a = rw told.listed at answered in absurd (quiet_out a.4.rose)
-complete Memory words shelf shelf' out out' err err' answered command given saying told quiet_shelf quiet_out = inl refl
-complete TableRefused words shelf shelf' out out' err err' answered command given saying told quiet_shelf quiet_out = absurd answered.2
-complete NotDerived words shelf shelf' out out' err err' answered command given saying told quiet_shelf quiet_out =
+complete Memory words shelf shelf' out out' err err' answered command given saying told holds quiet_shelf quiet_out = inl refl
+complete TableRefused words shelf shelf' out out' err err' answered command given saying told holds quiet_shelf quiet_out =
+    absurd (no_table_refused command words shelf shelf' answered.1 given saying told holds (rw told.listed at answered.2))
+complete NotDerived words shelf shelf' out out' err err' answered command given saying told holds quiet_shelf quiet_out =
     let a = rw told.listed at answered.2 in
     let held = subst (λ (x : Option Files). HeldAs x (requests_of command words) a.1) told.told a.2 in
     inr (denied_ends command saying answered.1 (same_denial command told.files (requests_of command words) given a.1 saying answered.1 told.held held told.says a.4))
-complete DerivationRefused words shelf shelf' out out' err err' answered command given saying told quiet_shelf quiet_out =
+complete DerivationRefused words shelf shelf' out out' err err' answered command given saying told holds quiet_shelf quiet_out =
     absurd (refused_told kinds.Derivation words shelf shelf' answered.1 command given saying told answered.2)
-complete SessionRefused words shelf shelf' out out' err err' answered command given saying told quiet_shelf quiet_out = absurd answered.2
-complete CertificateRefused words shelf shelf' out out' err err' answered command given saying told quiet_shelf quiet_out = absurd answered.2
+complete SessionRefused words shelf shelf' out out' err err' answered command given saying told holds quiet_shelf quiet_out = absurd answered.2
+complete CertificateRefused words shelf shelf' out out' err err' answered command given saying told holds quiet_shelf quiet_out = absurd answered.2
 
 -- what is put out is put of texts that are accepted
 puts_pass : (command : Command) (told : Option Files) (words : CommandLine) (ending : Ending) (pieces : List (List ℕ)) → Puts command told words ending pieces
     → (given : List Given) × HeldAs told (requests_of command words) given × PassAll [] given
 puts_pass command told words ending pieces puts =
-    let a = puts.1 in (a.0, a.1, a.2)
+    (puts.0, puts.1, puts.2)
 
 stop_none : (words : CommandLine) (shelf : ShelfState) (place : ℕ) (this : Request) (earlier : List Given) (bytes line : List ℕ) (ending : Ending) (pieces : List (List ℕ))
     → (st : StopTold words shelf place this earlier bytes line) → Puts st.command shelf.held words ending pieces → ⊥
 stop_none words shelf place this earlier bytes line ending pieces st puts =
     let g = puts_pass st.command (Some st.files) words ending pieces (subst (λ (x : Option Files). Puts st.command x words ending pieces) st.told puts) in
     none_stops st.files [] (requests_of st.command words) g.0 place this earlier bytes line g.1 g.2 st.here st.held st.bytes_held st.stops
+
+stop_no_table : (command : Command) (words : CommandLine) (shelf shelf' : ShelfState) (place : ℕ) (this : Request) (earlier : List Given) (bytes line line' : List ℕ)
+    → (st : StopTold words shelf place this earlier bytes line) → command ≡ st.command → TableRefusedAt command shelf shelf' (requests_of command words) line' → ⊥
+stop_no_table commands.Run words shelf shelf' place this earlier bytes line line' st is t =
+    let of = subst (λ (x : Option Files). SaysOf x (requests_of commands.Run words) t.1 t.2) st.told t.3.case_ in
+    let here = subst (λ (c : Command). slice_get (requests_of c words) place ≡ Some this) (sym is) st.here in
+    let held = subst (λ (c : Command). HeldAs (Some st.files) (take place (requests_of c words)) earlier) (sym is) st.held in
+    none_stops st.files [] (requests_of commands.Run words) of.given place this earlier bytes line of.held of.accepted here held st.bytes_held st.stops
+stop_no_table commands.Check words shelf shelf' place this earlier bytes line line' st is t = t
+stop_no_table commands.Plan words shelf shelf' place this earlier bytes line line' st is t = t
+stop_no_table commands.Frontier words shelf shelf' place this earlier bytes line line' st is t = t
+stop_no_table commands.Verify words shelf shelf' place this earlier bytes line line' st is t = t
 
 refused_same : (kind : TextKind) (words : CommandLine) (shelf shelf' : ShelfState) (err err' : SinkState) (place : ℕ) (this : Request) (earlier : List Given) (bytes line line' : List ℕ)
     → (st : StopTold words shelf place this earlier bytes line) → RefusedAt shelf shelf' (requests_of st.command words) kind line' → LinePut err err' line'
@@ -230,9 +299,10 @@ refused_exactly CatalogueRefused words shelf shelf' out out' err err' answered p
 refused_exactly QueryRefused words shelf shelf' out out' err err' answered place this earlier bytes line st quiet =
     inr (refused_same kinds.Query words shelf shelf' err err' place this earlier bytes line answered.1 st (rw st.listed at answered.2) answered.3)
 refused_exactly ReadFault words shelf shelf' out out' err err' answered place this earlier bytes line st quiet =
-    let u = rw st.listed at answered.2 in absurd (quiet u.4.rose)
+    absurd (quiet (unread_rose st.command shelf shelf' (requests_of st.command words) answered.1 (rw st.listed at answered.2)))
 refused_exactly Memory words shelf shelf' out out' err err' answered place this earlier bytes line st quiet = inl refl
-refused_exactly TableRefused words shelf shelf' out out' err err' answered place this earlier bytes line st quiet = absurd answered.2
+refused_exactly TableRefused words shelf shelf' out out' err err' answered place this earlier bytes line st quiet =
+    absurd (stop_no_table st.command words shelf shelf' place this earlier bytes line answered.1 st refl (rw st.listed at answered.2))
 refused_exactly NotDerived words shelf shelf' out out' err err' answered place this earlier bytes line st quiet =
     let a = rw st.listed at answered.2 in
     let held = subst (λ (x : Option Files). HeldAs x (requests_of st.command words) a.1) st.told a.2 in

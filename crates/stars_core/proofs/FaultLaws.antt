@@ -33,7 +33,7 @@ use Rattle.stars_core.specs.declared.refusal.TextKind.{TextKind}
 use Rattle.stars_core.specs.declared.refusal.TextKind.TheVariants.{Rules, Catalogue, Query, Derivation}
 use Rattle.stars_core.specs.declared.refusal.Refusal.{Refusal}
 use Rattle.stars_core.specs.declared.refusal.Refusal.TheVariants as refusals
-use Rattle.stars_core.specs.declared.refusal.Refusal.TheVariants.{Usage, Unread, Refused, NotDerived, Memory}
+use Rattle.stars_core.specs.declared.refusal.Refusal.TheVariants.{Usage, Unread, Refused, Table, NotDerived, Memory}
 use Rattle.stars_core.specs.Judging.{Refuses, RulesRead, RulesChecked, RulesPass, CataloguePasses, QueryPasses, DerivationPasses, StopsAlways, StopsOver}
 
 pub excludes : (has : Kind → List ℕ → Type 0) (kinds : List Kind) (line : List ℕ) → First has kinds line → Clear has kinds → ⊥
@@ -149,11 +149,13 @@ refuses kind P line (Refused k l) is p = (is.0, subst P (sym is.1) p)
 refuses kind P line refusals.Memory is p = tt
 refuses kind P line refusals.Usage is p = is
 refuses kind P line (Unread l) is p = is
+refuses kind P line (Table l) is p = is
 refuses kind P line (NotDerived l) is p = is
 
 pub refuses_map : (kind : TextKind) (P Q : List ℕ → Type 0) (refusal : Refusal) → ((line : List ℕ) → P line → Q line) → Refuses kind P refusal → Refuses kind Q refusal
 refuses_map kind P Q Usage f p = p
 refuses_map kind P Q (Unread line) f p = p
+refuses_map kind P Q (Table line) f p = p
 refuses_map kind P Q (NotDerived line) f p = p
 refuses_map kind P Q (Refused k line) f p = (p.0, f _ p.1)
 refuses_map kind P Q Memory f p = tt
@@ -166,6 +168,7 @@ long_refuses kind bytes P (Refused k l) long p = (long.0, p _ (λ earlier. long_
 long_refuses kind bytes P refusals.Memory long p = tt
 long_refuses kind bytes P refusals.Usage long p = long
 long_refuses kind bytes P (Unread l) long p = long
+long_refuses kind bytes P (Table l) long p = long
 long_refuses kind bytes P (NotDerived l) long p = long
 
 -- ---- rule files

@@ -2,11 +2,16 @@ mod Words
 pub mod FaultLaws
 pub mod Along
 pub mod Causes
+mod Emitting
 mod Endings
 mod PlanTexts
+pub mod Targets
+pub mod RunEnds
 mod Verifying
 mod Comments
 pub mod Derived
+pub mod Counted
+pub mod TablesExactly
 pub mod Says
 pub mod Cases
 pub mod OneFile

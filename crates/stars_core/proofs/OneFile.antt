@@ -4,7 +4,7 @@ use Rattle.std.specs.declared.alloc.Global.{Global}
 use Rattle.sb_outside.specs.Shelf.{ShelfState}
 use Rattle.sb_outside.proofs.Laws.{long_content}
 use Rattle.stars_core.specs.declared.refusal.Refusal.{Refusal}
-use Rattle.stars_core.specs.declared.refusal.Refusal.TheVariants.{Usage, Unread, Refused, NotDerived, Memory}
+use Rattle.stars_core.specs.declared.refusal.Refusal.TheVariants.{Usage, Unread, Refused, Table, NotDerived, Memory}
 use Rattle.stars_core.specs.CommandLine.{Request}
 use Rattle.stars_core.specs.Lines.{too_long_line}
 use Rattle.stars_core.specs.Judging.{Refuses, JudgedAs}
@@ -27,6 +27,7 @@ module _ (P : List ℕ → List ℕ → Type 0) (before now : ShelfState) (reque
           too_long = λ _. not.4;
         },
       )
+  unfetched long (Table line) not = not
   unfetched long (NotDerived line) not = not
   unfetched long Memory not = tt
 
@@ -44,6 +45,7 @@ module _ (P : List ℕ → List ℕ → Type 0) (before now : ShelfState) (reque
       too_long = λ long. absurd (omega (arith, long, fetched.2));
     },
   )
+  stopped text fetched (Table line) refuses = absurd refuses
   stopped text fetched (NotDerived line) refuses = absurd refuses
   stopped text fetched Memory refuses = tt
 

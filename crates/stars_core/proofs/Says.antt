@@ -13,7 +13,7 @@ use Rattle.catalogue.proofs.Laws.{one_catalogue}
 use Rattle.query_graph.proofs.Laws.{one_query, keeps_catalogue}
 use Rattle.derivation_reading.proofs.Laws.{one_derivation}
 use Rattle.stars_core.specs.declared.command.Command.{Command}
-use Rattle.stars_core.specs.declared.command.Command.TheVariants.{Check, Plan, Frontier, Verify}
+use Rattle.stars_core.specs.declared.command.Command.TheVariants.{Check, Plan, Run, Frontier, Verify}
 use Rattle.stars_core.specs.declared.status.Ending.{Ending}
 use Rattle.stars_core.specs.declared.status.Ending.TheVariants as endings
 use Rattle.stars_core.specs.Given.{Given}
@@ -37,7 +37,7 @@ says_case r c q rules catalogue query by over_text of =
       formed = weighed_formed (selects_of rules) query of.read.formed;
     }
 
-one_case : (r c q : List ℕ) (a b : RuleFile) (x y : QueryTree) → SaysCase r c q a x → SaysCase r c q b y → (a ≡ b) × (x ≡ y)
+pub one_case : (r c q : List ℕ) (a b : RuleFile) (x y : QueryTree) → SaysCase r c q a x → SaysCase r c q b y → (a ≡ b) × (x ≡ y)
 one_case r c q a b x y p p' =
     let v = p.spelled in
     let w = p'.spelled in
@@ -63,6 +63,7 @@ same_three (a, x, d) (b, y, e) p q =
 pub one_reading : (command : Command) (given : List Given) (a b : Saying command) → Says command given a → Says command given b → a ≡ b
 one_reading Check given a b p p' = one_rule_file (text_at given 0) a b p.of_rules p'.of_rules
 one_reading Plan given a b p p' = same_pair a b (one_case (text_at given 0) (text_at given 1) (text_at given 2) a.0 b.0 a.1 b.1 p p')
+one_reading Run given a b p p' = same_pair a b (one_case (text_at given 0) (text_at given 1) (text_at given 2) a.0 b.0 a.1 b.1 p p')
 one_reading Frontier given a b p p' = same_pair a b (one_case (text_at given 0) (text_at given 1) (text_at given 2) a.0 b.0 a.1 b.1 p p')
 one_reading Verify given a b p p' =
     same_three a b (one_case (text_at given 0) (text_at given 1) (text_at given 2) a.0 b.0 a.1 b.1 p.0 p'.0)

@@ -1,5 +1,5 @@
 -- What a derivation is answered.
-use Rattle.std.proofs.Common.{◌≡◌, ◌<◌, ◌^◌, ℕ, List, [], Result, Ok, Err, ap, sym, ◌∙◌, arith, string_bytes}
+use Rattle.std.proofs.Common.{◌≡◌, ◌<◌, ◌^◌, ℕ, List, [], ◌∷◌, Result, Ok, Err, refl, ap, sym, ◌∙◌, arith, string_bytes}
 use Rattle.sb_outside.specs.Shelf.{ShelfState}
 use Rattle.star_model.specs.Expected.{ForQuery}
 use Rattle.star_model.specs.Judging.{Vector, FirstInvalid, invalid_number, judge_root, node_count}
@@ -13,7 +13,7 @@ use Rattle.derivation_reading.proofs.Laws.{few_nodes}
 use Rattle.stars_core.specs.declared.answer.Answer.{Answer}
 use Rattle.stars_core.specs.declared.command.Command.TheVariants.{Verify}
 use Rattle.stars_core.specs.declared.refusal.Refusal.{Refusal}
-use Rattle.stars_core.specs.declared.refusal.Refusal.TheVariants.{Usage, Unread, Refused, NotDerived, Memory}
+use Rattle.stars_core.specs.declared.refusal.Refusal.TheVariants.{Usage, Unread, Refused, Table, NotDerived, Memory}
 use Rattle.stars_core.specs.declared.status.Ending.{Ending}
 use Rattle.stars_core.specs.declared.status.Ending.TheVariants.{Done}
 use Rattle.stars_core.specs.CommandLine.{four_requests}
@@ -22,7 +22,10 @@ use Rattle.stars_core.specs.Judging.{DerivationPasses}
 use Rattle.stars_core.specs.Faults.{PassAll}
 use Rattle.stars_core.specs.Saying.{SaysCase, four}
 use Rattle.stars_core.specs.Judged.{AnswersOf}
-use Rattle.stars_core.specs.Shelves.{CameAlong, Ran}
+use Rattle.stars_core.specs.declared.pieces.Pieces.{Pieces}
+use Rattle.stars_core.specs.Pieces.{pieces_of}
+use Rattle.stars_core.specs.Shelves.{CameAlong}
+use Rattle.stars_core.specs.Composing.{Ran}
 use Rattle.stars_core.specs.Verified.{Verified, VerifiedText, IsNotDerived, Denies, derived_line}
 
 -- a derivation that is read has few enough nodes
@@ -49,19 +52,36 @@ is_denied rules query d n Memory judged told = tt
 is_denied rules query d n Usage judged told = told
 is_denied rules query d n (Unread line) judged told = told
 is_denied rules query d n (Refused kind line) judged told = told
+is_denied rules query d n (Table line) judged told = told
 
 module _ (r c q d : List ℕ) (rules : RuleFile) (query : QueryTree) (tree : Deriv) (says : SaysCase r c q rules query) (spells : SpellsDerivation d tree) where
   -- of texts that were read
-  pub verified_ran : (before now : ShelfState) (rs cs qs ds : List ℕ) → CameAlong before now (four_requests rs cs qs ds) (four r c q d)
-      → (result : Result Answer Refusal) → Verified rules query tree result → Ran Verify before now (four_requests rs cs qs ds) result
-  verified_ran before now rs cs qs ds along (Ok answer) v =
-      (along.quiet, (four r c q d, along.held, along.accepted, record { saying = (rules, query, tree); says = (says, spells); answer = v }))
-  verified_ran before now rs cs qs ds along (Err (NotDerived line)) v =
-      (along.quiet, four r c q d, along.held, along.accepted, record { saying = (rules, query, tree); says = (says, spells); denied = v })
-  verified_ran before now rs cs qs ds along (Err Memory) v = tt
-  verified_ran before now rs cs qs ds along (Err Usage) v = absurd v
-  verified_ran before now rs cs qs ds along (Err (Unread line)) v = absurd v
-  verified_ran before now rs cs qs ds along (Err (Refused kind line)) v = absurd v
+  module _ (before now : ShelfState) (rs cs qs ds : List ℕ) (along : CameAlong before now (four_requests rs cs qs ds) (four r c q d)) where
+    pub verified_ran : (answer : Answer) (pieces : Pieces) → pieces.ending ≡ answer.ending → pieces_of pieces ≡ answer.text.items ∷ []
+        → Verified rules query tree (Ok answer) → Ran Verify before now (four_requests rs cs qs ds) (Ok pieces)
+    verified_ran answer pieces ends are v = (
+      along.quiet,
+      (
+        four r c q d,
+        along.held,
+        along.accepted,
+        rw ends (record {
+          text = answer.text.items;
+          answer = record { saying = (rules, query, tree); says = (says, spells); answer = v };
+          more = [];
+          further = refl;
+          are = are;
+        }),
+      ),
+    )
+
+    pub denied_ran : (refusal : Refusal) → Verified rules query tree (Err refusal) → Ran Verify before now (four_requests rs cs qs ds) (Err refusal)
+    denied_ran (NotDerived line) v = (along.quiet, four r c q d, along.held, along.accepted, record { saying = (rules, query, tree); says = (says, spells); denied = v })
+    denied_ran Memory v = tt
+    denied_ran Usage v = absurd v
+    denied_ran (Unread line) v = absurd v
+    denied_ran (Refused kind line) v = absurd v
+    denied_ran (Table line) v = absurd v
 
   -- of texts that were given
   pub verified_texts : PassAll [] (four r c q d) → (result : Result Answer Refusal) → Verified rules query tree result → AnswersOf Verify (four r c q d) result
@@ -71,3 +91,4 @@ module _ (r c q d : List ℕ) (rules : RuleFile) (query : QueryTree) (tree : Der
   verified_texts all (Err Usage) v = absurd v
   verified_texts all (Err (Unread line)) v = absurd v
   verified_texts all (Err (Refused kind line)) v = absurd v
+  verified_texts all (Err (Table line)) v = absurd v

@@ -4,7 +4,7 @@ use Rattle.std.specs.List.{list_any}
 use Rattle.std.specs.Str.{bytes_eq}
 use Rattle.std.specs.declared.alloc.Global.{Global}
 use Rattle.stars_core.specs.declared.command.Command.{Command}
-use Rattle.stars_core.specs.declared.command.Command.TheVariants.{Check, Plan, Frontier, Verify}
+use Rattle.stars_core.specs.declared.command.Command.TheVariants.{Check, Plan, Run, Frontier, Verify}
 use Rattle.stars_core.specs.declared.refusal.TextKind.{TextKind}
 use Rattle.stars_core.specs.declared.refusal.TextKind.TheVariants.{Rules, Catalogue, Query, Derivation}
 
@@ -24,6 +24,7 @@ abbrev pub named : List ℕ → Option Command
 named word =
     if bytes_eq word (codes "check") then Some Check
     else if bytes_eq word (codes "plan") then Some Plan
+    else if bytes_eq word (codes "run") then Some Run
     else if bytes_eq word (codes "frontier") then Some Frontier
     else if bytes_eq word (codes "verify") then Some Verify
     else None
@@ -32,6 +33,7 @@ named word =
 abbrev pub files_of : Command → ℕ
 files_of Check = 1
 files_of Plan = 3
+files_of Run = 3
 files_of Frontier = 3
 files_of Verify = 4
 
@@ -66,5 +68,6 @@ four_requests rules catalogue query derivation = three_requests rules catalogue 
 abbrev pub requests_of : Command → CommandLine → List Request
 requests_of Check words = (Rules, word_at words 1) ∷ []
 requests_of Plan words = three_requests (word_at words 1) (word_at words 2) (word_at words 3)
+requests_of Run words = three_requests (word_at words 1) (word_at words 2) (word_at words 3)
 requests_of Frontier words = three_requests (word_at words 1) (word_at words 2) (word_at words 3)
 requests_of Verify words = four_requests (word_at words 1) (word_at words 2) (word_at words 3) (word_at words 4)

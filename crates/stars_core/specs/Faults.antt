@@ -1,5 +1,6 @@
 -- The faults of a text, judged with the texts before it at hand.
 use Rattle.std.specs.Prelude.{◌≡◌, ◌⊎◌, ◌<◌, ℕ, List, [], ◌∷◌, ◌++◌, length, Some}
+use Rattle.sb_text.specs.Limits.{most_text_bytes}
 use Prim.Native.Nat.{zero, suc}
 use Rattle.star_model.specs.Accepted.{IsRefusedBy}
 use Rattle.star_model.specs.declared.catalogue.Catalogue.{Catalogue as CatalogueTree}
@@ -46,7 +47,7 @@ IsRejected (Derivation, d) line = ⊥
 
 -- the text has a fault of this kind, and the line tells it
 abbrev pub HasFault : List Given → Given → Kind → List ℕ → Type 0
-HasFault earlier this TooLong line = (1048576 < length this.1) × (line ≡ too_long_line this.0)
+HasFault earlier this TooLong line = (most_text_bytes < length this.1) × (line ≡ too_long_line this.0)
 HasFault earlier this Misread line = IsMisread earlier this line
 HasFault earlier this Rejected line = IsRejected this line
 

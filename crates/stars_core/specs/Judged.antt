@@ -4,7 +4,7 @@ use Rattle.stars_core.specs.declared.command.Command.{Command}
 use Rattle.stars_core.specs.declared.refusal.TextKind.{TextKind}
 use Rattle.stars_core.specs.declared.refusal.TextKind.TheVariants.{Rules, Catalogue, Query, Derivation}
 use Rattle.stars_core.specs.declared.refusal.Refusal.{Refusal}
-use Rattle.stars_core.specs.declared.refusal.Refusal.TheVariants.{Usage, Unread, Refused, NotDerived, Memory}
+use Rattle.stars_core.specs.declared.refusal.Refusal.TheVariants.{Usage, Unread, Refused, Table, NotDerived, Memory}
 use Rattle.stars_core.specs.declared.answer.Answer.{Answer}
 use Rattle.stars_core.specs.declared.case.Case.{Case}
 use Rattle.stars_core.specs.Given.{Given}
@@ -25,6 +25,7 @@ NotAnswered command given (NotDerived line) = PassAll [] given × IsDenied comma
 NotAnswered command given Memory = Unit {0}
 NotAnswered command given Usage = ⊥
 NotAnswered command given (Unread line) = ⊥
+NotAnswered command given (Table line) = ⊥
 
 -- the command's answer of the texts, or the first of their faults
 abbrev pub AnswersOf : Command → List Given → Result Answer Refusal → Type 0

@@ -1,5 +1,6 @@
 -- What the judgement of one text answers.
 use Rattle.std.specs.Prelude.{◌≡◌, ◌≤◌, ◌<◌, ℕ, List, length, Some, Result, Ok, Err, string_bytes}
+use Rattle.sb_text.specs.Limits.{most_text_bytes}
 use Rattle.star_model.specs.Accepted.{IsAccepted, IsRefusedBy}
 use Rattle.star_model.specs.declared.catalogue.Catalogue.{Catalogue as CatalogueTree}
 use Rattle.star_model.specs.declared.query.Query.{Query as QueryTree}
@@ -13,7 +14,7 @@ use Rattle.star_model.specs.declared.derivations.Deriv.{Deriv}
 use Rattle.stars_core.specs.declared.refusal.TextKind.{TextKind}
 use Rattle.stars_core.specs.declared.refusal.TextKind.TheVariants.{Rules, Catalogue, Query, Derivation}
 use Rattle.stars_core.specs.declared.refusal.Refusal.{Refusal}
-use Rattle.stars_core.specs.declared.refusal.Refusal.TheVariants.{Usage, Unread, Refused, NotDerived, Memory}
+use Rattle.stars_core.specs.declared.refusal.Refusal.TheVariants.{Usage, Unread, Refused, Table, NotDerived, Memory}
 use Rattle.stars_core.specs.Lines.{too_long_line, rules_line}
 use Rattle.stars_core.specs.Given.{Given, Over}
 use Rattle.stars_core.specs.Faults.{Stops}
@@ -24,32 +25,33 @@ Refuses kind P (Refused k line) = (k ≡ kind) × P (string_bytes line)
 Refuses kind P Memory = Unit {0}
 Refuses kind P Usage = ⊥
 Refuses kind P (Unread line) = ⊥
+Refuses kind P (Table line) = ⊥
 Refuses kind P (NotDerived line) = ⊥
 
 -- whether the text is within the limit
 abbrev pub SizeJudged : {A : Type 0} → TextKind → List ℕ → Result A Refusal → Type 0
-SizeJudged kind bytes (Ok done) = length bytes ≤ 1048576
-SizeJudged kind bytes (Err refusal) = Refuses kind (λ line. (1048576 < length bytes) × (line ≡ too_long_line kind)) refusal
+SizeJudged kind bytes (Ok done) = length bytes ≤ most_text_bytes
+SizeJudged kind bytes (Err refusal) = Refuses kind (λ line. (most_text_bytes < length bytes) × (line ≡ too_long_line kind)) refusal
 
 -- the text says these rules, which are accepted
 pub record RulesPass (r : List ℕ) (rules : RuleFile) : Type 0 where
-  pub size : length r ≤ 1048576
+  pub size : length r ≤ most_text_bytes
   pub read : rule_files.ReadsRules r (Ok rules)
   pub accepted : IsAccepted rules
 
 -- the text says this catalogue
 pub record CataloguePasses (c : List ℕ) (catalogue : CatalogueTree) : Type 0 where
-  pub size : length c ≤ 1048576
+  pub size : length c ≤ most_text_bytes
   pub read : catalogues.ReadsCatalogue c (Ok catalogue)
 
 -- the text says this query
 pub record QueryPasses (catalogue : CatalogueTree) (q : List ℕ) (query : QueryTree) : Type 0 where
-  pub size : length q ≤ 1048576
+  pub size : length q ≤ most_text_bytes
   pub read : queries.ReadsQuery catalogue q (Ok query)
 
 -- the text says this derivation
 pub record DerivationPasses (d : List ℕ) (tree : Deriv) : Type 0 where
-  pub size : length d ≤ 1048576
+  pub size : length d ≤ most_text_bytes
   pub read : derivations.ReadsDerivation d (Ok tree)
 
 -- the text is stopped with this line, whatever stands before it

@@ -167,9 +167,6 @@ derivation_line (derivations.Syntax statement) = Some (syntax_line Derivation st
 derivation_line (derivations.TooTall node) = Some (far_down_line node)
 derivation_line derivations.Memory = None
 
-abbrev pub cannot_read : List ℕ → List ℕ
-cannot_read name = codes "cannot read " ++ name ++ 10 ∷ []
-
 abbrev pub usage_line : List ℕ
 usage_line = codes "usage: stars COMMAND FILE..." ++ 10 ∷ []
 
@@ -206,6 +203,7 @@ abbrev pub status_of : Refusal → Status
 status_of refusals.Usage = Usage
 status_of (refusals.Unread line) = ReadFault
 status_of (refusals.Refused kind line) = refused_status kind
+status_of (refusals.Table line) = TableRefused
 status_of (refusals.NotDerived line) = NotDerived
 status_of refusals.Memory = Memory
 
@@ -213,5 +211,6 @@ abbrev pub line_of : Refusal → List ℕ
 line_of refusals.Usage = usage_line
 line_of (refusals.Unread line) = string_bytes line
 line_of (refusals.Refused kind line) = string_bytes line
+line_of (refusals.Table line) = string_bytes line
 line_of (refusals.NotDerived line) = string_bytes line
 line_of refusals.Memory = out_of_memory

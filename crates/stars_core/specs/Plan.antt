@@ -1,5 +1,5 @@
 -- The text of a plan.
-use Rattle.std.specs.Prelude.{◌≡◌, ◌≤◌, ℕ, List, [], ◌∷◌, ◌++◌, codes}
+use Rattle.std.specs.Prelude.{◌≡◌, ◌≤◌, ℕ, List, [], ◌∷◌, ◌++◌, codes, Option, None, Some}
 use Rattle.std.specs.Fmt.{decimal}
 use Rattle.star_model.specs.Derivations.{IsRoot, IsLeast}
 use Rattle.star_model.specs.Numbers.{top}
@@ -7,6 +7,8 @@ use Rattle.star_model.specs.declared.rules.RuleFile.{RuleFile}
 use Rattle.star_model.specs.declared.query.Query.{Query as QueryTree}
 use Rattle.star_model.specs.declared.derivations.Deriv.{Deriv}
 use Rattle.star_model.specs.declared.plans.Props.{Props}
+use Rattle.lolepop.specs.Derived.{DerivedPlan, vector_of}
+use Rattle.row_answers.specs.RowsTexts.{IsForQuery}
 use Rattle.derivation_reading.specs.Derivations.{SpellsDerivation, canonical}
 use Rattle.rule_grammar.specs.Rules.{SpellsRules}
 use Rattle.star_model.specs.WellFormedRules.{WellFormedRules}
@@ -30,6 +32,16 @@ pub record AreSmall (v : Props) : Type 0 where
 -- the rules derive no plan for the query
 abbrev pub HasNoPlan : RuleFile → QueryTree → Type 0
 HasNoPlan rules query = (d : Deriv) (v : Props) → IsRoot query rules d v → ⊥
+
+-- or they derive one
+abbrev pub HasPlan : RuleFile → QueryTree → Type 0
+HasPlan rules query = (d : Deriv) × (v : Props) × IsRoot query rules d v
+
+-- a plan of least cost, whose numbers are small, and whose rows are the query's; or none
+abbrev pub IsFound : RuleFile → QueryTree → Option DerivedPlan → Type 0
+IsFound rules query None = HasNoPlan rules query
+IsFound rules query (Some e) =
+    IsLeast query rules e.deriv (vector_of e) × AreSmall (vector_of e) × IsForQuery query e.tree
 
 -- How planning ends, and the text of each end: behind the comment stands a derivation, which it spells where the rules have a text.
 abbrev pub PlanText : RuleFile → QueryTree → Ending → List ℕ → Type 0

@@ -17,7 +17,7 @@ use Rattle.derivation_reading.specs.Derivations.{SpellsDerivation, canonical}
 use Rattle.catalogue.specs.Catalogues.{SpellsCatalogue}
 use Rattle.query_graph.specs.Queries.{SpellsQuery}
 use Rattle.stars_core.specs.declared.command.Command.{Command}
-use Rattle.stars_core.specs.declared.command.Command.TheVariants.{Check, Plan, Frontier, Verify}
+use Rattle.stars_core.specs.declared.command.Command.TheVariants.{Check, Plan, Run, Frontier, Verify}
 use Rattle.stars_core.specs.declared.refusal.TextKind.TheVariants.{Rules, Catalogue, Query, Derivation}
 use Rattle.stars_core.specs.declared.status.Ending.{Ending}
 use Rattle.stars_core.specs.declared.status.Ending.TheVariants.{Done, NoPlan}
@@ -58,6 +58,7 @@ pub record SaysCase (r c q : List ℕ) (rules : RuleFile) (query : QueryTree) : 
 abbrev pub Saying : Command → Type 0
 Saying Check = RuleFile
 Saying Plan = RuleFile × QueryTree
+Saying Run = RuleFile × QueryTree
 Saying Frontier = RuleFile × QueryTree
 Saying Verify = RuleFile × QueryTree × Deriv
 
@@ -65,6 +66,7 @@ Saying Verify = RuleFile × QueryTree × Deriv
 abbrev pub Says : (command : Command) → List Given → Saying command → Type 0
 Says Check given rules = SaysRules (text_at given 0) rules
 Says Plan given saying = SaysCase (text_at given 0) (text_at given 1) (text_at given 2) saying.0 saying.1
+Says Run given saying = SaysCase (text_at given 0) (text_at given 1) (text_at given 2) saying.0 saying.1
 Says Frontier given saying = SaysCase (text_at given 0) (text_at given 1) (text_at given 2) saying.0 saying.1
 Says Verify given saying =
     SaysCase (text_at given 0) (text_at given 1) (text_at given 2) saying.0 saying.1 × SpellsDerivation (text_at given 3) saying.2
@@ -78,10 +80,11 @@ abbrev pub SpelledPlan : RuleFile → QueryTree → Ending → List ℕ → Type
 SpelledPlan rules query Done text = (d : Deriv) × (v : Props) × IsLeast query rules d v × (text ≡ commented (numbers v) (canonical d)) × SpellsDerivation text d
 SpelledPlan rules query NoPlan text = PlanText rules query NoPlan text
 
--- how the command ends, and the text of each end
+-- how the command ends, and the text of each end; a run's is that of its plan
 abbrev pub AnswerText : (command : Command) → Saying command → Ending → List ℕ → Type 0
 AnswerText Check rules ending text = RulesText rules ending text
 AnswerText Plan saying ending text = SpelledPlan saying.0 saying.1 ending text
+AnswerText Run saying ending text = SpelledPlan saying.0 saying.1 ending text
 AnswerText Frontier saying ending text = FrontierText saying.0 saying.1 ending text
 AnswerText Verify saying ending text = VerifiedText saying.0 saying.1 saying.2 ending text
 
@@ -95,6 +98,7 @@ pub record IsAnswer (command : Command) (given : List Given) (ending : Ending) (
 abbrev pub Denied : (command : Command) → Saying command → List ℕ → Type 0
 Denied Check rules line = ⊥
 Denied Plan saying line = ⊥
+Denied Run saying line = ⊥
 Denied Frontier saying line = ⊥
 Denied Verify saying line = IsNotDerived saying.0 saying.1 saying.2 line
 

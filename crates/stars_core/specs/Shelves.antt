@@ -1,20 +1,19 @@
 -- What a command finds on its shelf.
-use Rattle.std.specs.Prelude.{◌≡◌, ◌≤◌, ◌+◌, ◌++◌, ◌<◌, ℕ, false, List, [], ◌∷◌, take, slice_get, length, Option, None, Some, Result, Ok, Err, Vec, string_bytes}
+use Rattle.std.specs.Prelude.{◌≡◌, ◌≤◌, ◌+◌, ◌<◌, ℕ, false, List, [], ◌∷◌, take, slice_get, length, Option, Some, Result, Ok, Err, Vec, string_bytes}
 use Rattle.std.specs.declared.alloc.Global.{Global}
+use Rattle.sb_text.specs.Limits.{most_text_bytes}
 use Rattle.sb_outside.specs.Counts.{RoseBy}
 use Rattle.sb_outside.specs.Shelf.{Files, ShelfState, GoesBy, FailsAt, NoFault, TellsBytes, TellsMore}
 use Rattle.stars_core.specs.declared.refusal.TextKind.{TextKind}
 use Rattle.stars_core.specs.declared.refusal.Refusal.{Refusal}
-use Rattle.stars_core.specs.declared.refusal.Refusal.TheVariants.{Usage, Unread, Refused, NotDerived, Memory}
-use Rattle.stars_core.specs.declared.status.Ending.{Ending}
-use Rattle.stars_core.specs.declared.answer.Answer.{Answer}
-use Rattle.stars_core.specs.declared.case.Case.{Case}
+use Rattle.stars_core.specs.declared.refusal.Refusal.TheVariants.{Usage, Unread, Refused, Table, NotDerived, Memory}
 use Rattle.stars_core.specs.declared.command.Command.{Command}
-use Rattle.stars_core.specs.CommandLine.{Request, CommandLine, requests_of, three_requests}
-use Rattle.stars_core.specs.Lines.{cannot_read, too_long_line}
+use Rattle.stars_core.specs.CommandLine.{Request}
+use Rattle.table_taking.specs.Lines.{cannot_read}
+use Rattle.stars_core.specs.Lines.{too_long_line}
 use Rattle.stars_core.specs.Given.{Given}
 use Rattle.stars_core.specs.Faults.{Stops, PassAll}
-use Rattle.stars_core.specs.Saying.{SaysCase, IsAnswer, IsDenied, three}
+use Rattle.stars_core.specs.Saying.{IsDenied}
 
 -- These are texts of what is asked for, and those that the shelf holds, where it tells.
 abbrev pub HeldAs : Option Files → List Request → List Given → Type 0
@@ -30,13 +29,14 @@ NotFetched before now request Usage = ⊥
 NotFetched before now request (Unread line) = FailsAt before now (false, request.1) × (string_bytes line ≡ cannot_read request.1)
 NotFetched before now request (Refused kind line) =
     NoFault before now × (kind ≡ request.0) × (string_bytes line ≡ too_long_line kind)
-    × TellsMore before.held request.1 1048576 × RoseBy 1048577 before.taken now.taken
+    × TellsMore before.held request.1 most_text_bytes × RoseBy 1048577 before.taken now.taken
+NotFetched before now request (Table line) = ⊥
 NotFetched before now request (NotDerived line) = ⊥
 NotFetched before now request Memory = Unit {0}
 
 -- a file was fetched, or why not
 abbrev pub Fetched : ShelfState → ShelfState → Request → Result (Vec ℕ Global) Refusal → Type 0
-Fetched before now request (Ok text) = NoFault before now × TellsBytes before.held request.1 text.items × (length text.items ≤ 1048576)
+Fetched before now request (Ok text) = NoFault before now × TellsBytes before.held request.1 text.items × (length text.items ≤ most_text_bytes)
 Fetched before now request (Err refusal) = NotFetched before now request refusal
 
 -- the file's text is stopped as P says
@@ -45,13 +45,14 @@ pub record StopTaken (P : List ℕ → List ℕ → Type 0) (before now : ShelfS
   pub told : TellsBytes before.held request.1 bytes
   pub stops : P bytes line
   pub quiet : NoFault before now
-  pub too_long : 1048576 < length bytes → RoseBy 1048577 before.taken now.taken
+  pub too_long : most_text_bytes < length bytes → RoseBy 1048577 before.taken now.taken
 
 -- a file wasn't taken: it couldn't be read, or its text is stopped as P says
 abbrev pub NotTaken : (List ℕ → List ℕ → Type 0) → ShelfState → ShelfState → Request → Refusal → Type 0
 NotTaken P before now request Usage = ⊥
 NotTaken P before now request (Unread line) = FailsAt before now (false, request.1) × (string_bytes line ≡ cannot_read request.1)
 NotTaken P before now request (Refused kind line) = (kind ≡ request.0) × StopTaken P before now request (string_bytes line)
+NotTaken P before now request (Table line) = ⊥
 NotTaken P before now request (NotDerived line) = ⊥
 NotTaken P before now request Memory = Unit {0}
 
@@ -80,7 +81,7 @@ pub record Stopping (before now : ShelfState) (line : List ℕ) (this : Request)
   pub told : TellsBytes before.held this.1 bytes
   pub stops : Stops earlier (this.0, bytes) line
   pub quiet : NoFault before now
-  pub too_long : 1048576 < length bytes → RoseBy 1048577 before.taken now.taken
+  pub too_long : most_text_bytes < length bytes → RoseBy 1048577 before.taken now.taken
 
 -- The text of this kind at some place is stopped with this line, and those before it are accepted.
 abbrev pub RefusedAt : ShelfState → ShelfState → List Request → TextKind → List ℕ → Type 0
@@ -93,42 +94,9 @@ abbrev pub DeniedOf : Command → ShelfState → ShelfState → List Request →
 DeniedOf command before now requests line =
     NoFault before now × (given : List Given) × HeldAs before.held requests given × PassAll [] given × IsDenied command given line
 
-abbrev pub RanInto : Command → ShelfState → ShelfState → List Request → Refusal → Type 0
-RanInto command before now requests Usage = ⊥
-RanInto command before now requests (Unread line) = UnreadAt before now requests (string_bytes line)
-RanInto command before now requests (Refused kind line) = RefusedAt before now requests kind (string_bytes line)
-RanInto command before now requests (NotDerived line) = DeniedOf command before now requests (string_bytes line)
-RanInto command before now requests Memory = Unit {0}
-
 -- the files so far were read and are accepted, and the shelf didn't fail
 pub record CameAlong (before now : ShelfState) (front : List Request) (earlier : List Given) : Type 0 where
   pub by : GoesBy (length front) before now
   pub quiet : NoFault before now
   pub held : HeldAs before.held front earlier
   pub accepted : PassAll [] earlier
-
--- three files were read and say this, or why not, whatever is asked for behind them
-abbrev pub CaseTaken : ShelfState → ShelfState → List ℕ → List ℕ → List ℕ → Result Case Refusal → Type 0
-CaseTaken before now rules catalogue query (Ok case) =
-    (r : List ℕ) × (c : List ℕ) × (q : List ℕ) × CameAlong before now (three_requests rules catalogue query) (three r c q)
-    × SaysCase r c q case.rules case.query
-CaseTaken before now rules catalogue query (Err refusal) =
-    (command : Command) (later : List Request) → RanInto command before now (three_requests rules catalogue query ++ later) refusal
-
--- the requests stand for texts that are accepted, and this is the command's answer of what they say
-abbrev pub IsAnswered : Command → Option Files → List Request → Ending → List ℕ → Type 0
-IsAnswered command told requests ending text = (given : List Given) × HeldAs told requests given × PassAll [] given × IsAnswer command given ending text
-
--- what a command puts out, piece by piece
-abbrev pub Puts : Command → Option Files → CommandLine → Ending → List (List ℕ) → Type 0
-Puts command told words ending pieces = (text : List ℕ) × IsAnswered command told (requests_of command words) ending text × (pieces ≡ text ∷ [])
-
--- the command's answer was made of its files, or why not
-abbrev pub Ran : Command → ShelfState → ShelfState → List Request → Result Answer Refusal → Type 0
-Ran command before now requests (Ok answer) = NoFault before now × IsAnswered command before.held requests answer.ending answer.text.items
-Ran command before now requests (Err refusal) = RanInto command before now requests refusal
-
--- what the words made of the shelf
-abbrev pub Composed : ShelfState → ShelfState → CommandLine → Option Command → Result Answer Refusal → Type 0
-Composed before now words None result = (now ≡ before) × (result ≡ Err Usage)
-Composed before now words (Some command) result = GoesBy (length (requests_of command words)) before now × Ran command before now (requests_of command words) result

@@ -11,7 +11,7 @@ use Rattle.stars_core.specs.declared.status.Ending.{Ending}
 use Rattle.stars_core.specs.declared.status.Ending.TheVariants.{Done}
 use Rattle.stars_core.specs.declared.answer.Answer.{Answer}
 use Rattle.stars_core.specs.declared.refusal.Refusal.{Refusal}
-use Rattle.stars_core.specs.declared.refusal.Refusal.TheVariants.{Usage, Unread, Refused, NotDerived, Memory}
+use Rattle.stars_core.specs.declared.refusal.Refusal.TheVariants.{Usage, Unread, Refused, Table, NotDerived, Memory}
 use Rattle.stars_core.specs.Plan.{numbers}
 use Rattle.stars_core.specs.Lines.{not_derived_line}
 
@@ -36,6 +36,7 @@ Denies P Memory = Unit {0}
 Denies P Usage = ⊥
 Denies P (Unread line) = ⊥
 Denies P (Refused kind line) = ⊥
+Denies P (Table line) = ⊥
 
 -- what the judgement answers
 abbrev pub Verified : RuleFile → QueryTree → Deriv → Result Answer Refusal → Type 0

@@ -10,9 +10,13 @@ pub enum Command {
     Check,
     /// `plan RULES CATALOGUE QUERY` puts the cheapest plan with its derivation and cost.
     Plan,
-    /// `frontier RULES CATALOGUE QUERY` puts a line for each vector of the query's goal to which no other is better.
+    /// `run RULES CATALOGUE QUERY` puts the same, and then the query's rows, from its tables.
+    Run,
+    /// `frontier RULES CATALOGUE QUERY` puts a line for each vector of the query's goal to which no
+    /// other is better.
     Frontier,
-    /// `verify RULES CATALOGUE QUERY DERIVATION` puts the numbers of the derivation's plan, where it is one of the query by the rules.
+    /// `verify RULES CATALOGUE QUERY DERIVATION` puts the numbers of the derivation's plan, where
+    /// it is one of the query by the rules.
     Verify,
 }
 
@@ -23,7 +27,7 @@ impl Command {
     {
         match self {
             Command::Check => 1,
-            Command::Plan | Command::Frontier => 3,
+            Command::Plan | Command::Run | Command::Frontier => 3,
             Command::Verify => 4,
         }
     }
@@ -42,6 +46,8 @@ fn named(word: &str) -> Option<Command>
         Some(Command::Check)
     } else if word == "plan" {
         Some(Command::Plan)
+    } else if word == "run" {
+        Some(Command::Run)
     } else if word == "frontier" {
         Some(Command::Frontier)
     } else if word == "verify" {
@@ -65,7 +71,8 @@ fn asking(command: Option<Command>, names: usize) -> Option<Command>
 #[tactic(auto, using(crate::proofs::Words::asks_for))]
 fn listed(words: &[String]) -> Option<Command>
     ensures value { result ≡ listed (bytes_of words.now) }
-    ensures names { IfSome result (λ command. length words.now ≡ length (requests_of command (bytes_of words.now)) + 1) }
+    ensures names { IfSome result (λ command.
+        length words.now ≡ length (requests_of command (bytes_of words.now)) + 1) }
 {
     match words {
         [] => None,
@@ -84,7 +91,8 @@ fn any_dash(words: &[String]) -> bool
 #[tactic(auto, using(crate::proofs::Words::list_any_map))]
 pub fn find_command(words: &[String]) -> Option<Command>
     ensures value { result ≡ command_of (bytes_of words.now) }
-    ensures names { IfSome result (λ command. length words.now ≡ length (requests_of command (bytes_of words.now)) + 1) }
+    ensures names { IfSome result (λ command.
+        length words.now ≡ length (requests_of command (bytes_of words.now)) + 1) }
 {
     if any_dash(words) { None } else { listed(words) }
 }

@@ -56,7 +56,8 @@ fn push_column(text: &mut Vec<u8>, query: &Query, column: Col) -> Result<(), All
 
 // The columns behind the first.
 fn push_further(text: &mut Vec<u8>, query: &Query, columns: &[Col]) -> Result<(), AllocError>
-    ensures { OnOk result (text.new.items ≡ text.old.items ++ further_columns query.now columns.now) }
+    ensures { OnOk result (text.new.items ≡ text.old.items
+        ++ further_columns query.now columns.now) }
 {
     for column in columns {
         text.extend_from_slice(b", ")?;
@@ -138,7 +139,8 @@ fn lines(alloc: Global, query: &Query, vectors: &[Props]) -> Result<Vec<u8>, All
     Ok(text)
 }
 
-/// How the search for the query's goal ends, and the text that tells it: a line for each vector of the goal's frontier, in their order.
+/// How the search for the query's goal ends, and the text that tells it: a line for each vector of
+/// the goal's frontier, in their order.
 #[tactic(auto, using(crate::proofs::Endings::no_lines_told))]
 pub fn frontier_query(
     alloc: Global,
@@ -146,7 +148,8 @@ pub fn frontier_query(
     query: &Query,
 ) -> Result<Answer, AllocError>
     requires { WellFormedQuery query.now }
-    ensures { IfOk result (λ answer. FrontierText rules.now query.now answer.ending answer.text.items) }
+    ensures { IfOk result (λ answer. FrontierText rules.now query.now answer.ending
+        answer.text.items) }
 {
     let vectors = frontier(alloc, rules, query)?;
     if vectors.len() == 0 {

@@ -1,5 +1,6 @@
 // The judgement of one text.
 ghost use Rattle.std.specs.Prelude.{◌≡◌, ◌≤◌, length, Some};
+ghost use Rattle.sb_text.specs.Limits.{most_text_bytes};
 ghost use Rattle.star_model.specs.WellFormed.{WellFormedCatalogue};
 ghost use Rattle.star_model.specs.WellFormedRules.{WellFormedRules};
 ghost use Rattle.stars_core.specs.Lines.{rules_line, catalogue_line, query_line, derivation_line};
@@ -19,7 +20,7 @@ use star_model::faults::RuleFault;
 use star_model::query::Query;
 use star_model::rules::RuleFile;
 use star_syntax::read_rules;
-use std::alloc::Global;
+use std::alloc::{AllocError, Global};
 
 // Refuses a text that is longer than texts may be.
 fn check_size(alloc: Global, kind: TextKind, bytes: &[u8]) -> Result<(), Refusal>
@@ -36,7 +37,7 @@ fn refused_rules(alloc: Global, fault: RuleFault) -> Refusal
 {
     match rules_line(alloc, fault) {
         Ok(line) => Refusal::Refused(TextKind::Rules, line),
-        Err(_) => Refusal::Memory,
+        Err(AllocError) => Refusal::Memory,
     }
 }
 
@@ -45,7 +46,7 @@ fn misread_catalogue(alloc: Global, fault: CatFault) -> Refusal
 {
     match catalogue_line(alloc, fault) {
         Ok(line) => Refusal::Refused(TextKind::Catalogue, line),
-        Err(_) => Refusal::Memory,
+        Err(AllocError) => Refusal::Memory,
     }
 }
 
@@ -54,7 +55,7 @@ fn misread_query(alloc: Global, fault: QueryFault) -> Refusal
 {
     match query_line(alloc, fault) {
         Ok(line) => Refusal::Refused(TextKind::Query, line),
-        Err(_) => Refusal::Memory,
+        Err(AllocError) => Refusal::Memory,
     }
 }
 
@@ -63,13 +64,13 @@ fn misread_derivation(alloc: Global, fault: DerivFault) -> Refusal
 {
     match derivation_line(alloc, fault) {
         Ok(line) => Refusal::Refused(TextKind::Derivation, line),
-        Err(_) => Refusal::Memory,
+        Err(AllocError) => Refusal::Memory,
     }
 }
 
 // Reads a rule file that isn't too long.
 fn read(alloc: Global, bytes: &[u8]) -> Result<RuleFile, Refusal>
-    requires { length bytes.now ≤ 1048576 }
+    requires { length bytes.now ≤ most_text_bytes }
     ensures { RulesRead bytes.now result }
 {
     match read_rules(alloc, bytes) {

@@ -179,7 +179,8 @@ pub fn derivation_line(alloc: Global, fault: DerivFault) -> Result<String, Alloc
     }
 }
 
-// Of a derivation that isn't one of the query by the rules: its first invalid node, counted from 1 in preorder.
+// Of a derivation that isn't one of the query by the rules: its first invalid node, counted from 1
+// in preorder.
 pub fn not_derived_line(alloc: Global, node: u32) -> Result<String, AllocError>
     ensures { IfOk result (λ line. string_bytes line ≡ not_derived_line node) }
 {

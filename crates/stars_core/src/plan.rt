@@ -4,7 +4,7 @@ ghost use Rattle.star_model.specs.WellFormed.{WellFormedQuery};
 ghost use Rattle.lolepop.specs.Derived.{vector_of};
 ghost use Rattle.derivation_reading.specs.Derivations.{canonical};
 ghost use Rattle.spelling.specs.Layout.{commented};
-ghost use Rattle.stars_core.specs.Plan.{PlanText, AreSmall, numbers, no_plan};
+ghost use Rattle.stars_core.specs.Plan.{PlanText, IsFound, AreSmall, numbers, no_plan};
 ghost use Rattle.stars_core.specs.declared.status.Ending.TheVariants.{Done, NoPlan};
 
 use crate::{Answer, Ending};
@@ -43,8 +43,9 @@ fn stands(plan: &Best)
 }
 
 // The numbers of a plan in a comment, and its derivation.
-fn plan_text(alloc: Global, plan: &Best) -> Result<Vec<u8>, AllocError>
-    ensures { IfOk result (λ text. text.items ≡ commented (numbers (vector_of plan.now)) (canonical plan.now.deriv)) }
+pub fn plan_text(alloc: Global, plan: &Best) -> Result<Vec<u8>, AllocError>
+    ensures { IfOk result (λ text. text.items
+        ≡ commented (numbers (vector_of plan.now)) (canonical plan.now.deriv)) }
 {
     let numbers = numbers(alloc, plan.node.props())?;
     let derivation = print_derivation(alloc, &plan.deriv)?;
@@ -67,15 +68,32 @@ pub fn unplanned(alloc: Global) -> Result<Answer, AllocError>
     })
 }
 
+/// A plan of least cost, if the rules derive one.
+pub fn find_plan(
+    alloc: Global,
+    rules: &CheckedRules,
+    query: &Query,
+) -> Result<Option<Best>, AllocError>
+    requires { WellFormedQuery query.now }
+    ensures { IfOk result (IsFound rules.now query.now) }
+{
+    match best(alloc, rules, query)? {
+        Some(plan) => {
+            stands(&plan);
+            Ok(Some(plan))
+        }
+        None => Ok(None),
+    }
+}
+
 /// How planning of a query by rules ends, and the text that tells it.
 pub fn plan_query(alloc: Global, rules: &CheckedRules, query: &Query) -> Result<Answer, AllocError>
     requires { WellFormedQuery query.now }
     ensures { IfOk result (λ answer. PlanText rules.now query.now answer.ending answer.text.items) }
 {
-    let Some(plan) = best(alloc, rules, query)? else {
+    let Some(plan) = find_plan(alloc, rules, query)? else {
         return unplanned(alloc);
     };
-    stands(&plan);
     let text = plan_text(alloc, &plan)?;
     Ok(Answer {
         ending: Ending::Done,

@@ -1,22 +1,15 @@
 // The fetching of one file.
-ghost use Rattle.std.specs.Prelude.{◌≡◌, IfOk, string_bytes};
 ghost use Rattle.sb_outside.specs.Shelf.{Goes};
-ghost use Rattle.stars_core.specs.Lines.{cannot_read};
 ghost use Rattle.stars_core.specs.Shelves.{Fetched};
 
 use crate::lines::too_long_line;
 use crate::{Refusal, TextKind};
 use sb_outside::{Shelf, ShelfFault};
-use std::alloc::{AllocError, Global};
+use std::alloc::Global;
+use table_taking::unread_line;
 
 /// The greatest length of a text, in bytes.
 pub const LIMIT: usize = 1_048_576;
-
-fn unread_line(alloc: Global, name: &str) -> Result<String, AllocError>
-    ensures { IfOk result (λ line. string_bytes line ≡ cannot_read name.now) }
-{
-    format!(in alloc; "cannot read {name}\n")
-}
 
 // The bytes of the file of this name, whose text is to be of this kind.
 pub fn fetch<S: Shelf>(

@@ -2,9 +2,11 @@
 ghost use Rattle.std.specs.Prelude.{◌≡◌};
 ghost use Rattle.stars_core.specs.declared.refusal.Refusal.TheVariants.{Memory};
 ghost use Rattle.stars_core.specs.Lines.{status_of, line_of};
+ghost use Rattle.stars_core.specs.Refusals.{refusal_of};
 
 use crate::Status;
 use std::alloc::AllocError;
+use table_taking::Stop;
 
 /// What a text is to be.
 #[derive(Clone, Copy, Debug, PartialEq, Eq)]
@@ -15,7 +17,8 @@ pub enum TextKind {
     Derivation,
 }
 
-/// Why a command has no output. A refusal carries its finished line, so that telling it takes no memory.
+/// Why a command has no output. A refusal carries its finished line, so that telling it takes no
+/// memory.
 #[derive(Drop)]
 pub enum Refusal {
     /// The words are no listed form.
@@ -24,6 +27,8 @@ pub enum Refusal {
     Unread(String),
     /// A text of this kind has a fault, which the line tells.
     Refused(TextKind, String),
+    /// A table's file is too long, or its records have a fault, which the line tells.
+    Table(String),
     /// A derivation is not one of the query by the rules; the line names its first invalid node.
     NotDerived(String),
     /// Memory was wanting.
@@ -35,6 +40,18 @@ impl From<AllocError> for Refusal {
 
     fn from(_: AllocError) -> Self {
         Refusal::Memory
+    }
+}
+
+impl From<Stop> for Refusal {
+    ghost from_gives = { λ stop e. e ≡ refusal_of stop };
+
+    fn from(stop: Stop) -> Self {
+        match stop {
+            Stop::Unread(line) => Refusal::Unread(line),
+            Stop::Refused(line) => Refusal::Table(line),
+            Stop::Memory => Refusal::Memory,
+        }
     }
 }
 
@@ -50,6 +67,7 @@ impl Refusal {
             Refusal::Refused(TextKind::Catalogue, _) => Status::CatalogueRefused,
             Refusal::Refused(TextKind::Query, _) => Status::QueryRefused,
             Refusal::Refused(TextKind::Derivation, _) => Status::DerivationRefused,
+            Refusal::Table(_) => Status::TableRefused,
             Refusal::NotDerived(_) => Status::NotDerived,
             Refusal::Memory => Status::Memory,
         }
@@ -62,7 +80,8 @@ impl Refusal {
         match self {
             Refusal::Usage => "usage: stars COMMAND FILE...\n",
             Refusal::Unread(line) => line.as_str(),
-            Refusal::Refused(_, line) | Refusal::NotDerived(line) => line.as_str(),
+            Refusal::Refused(_, line) | Refusal::Table(line) => line.as_str(),
+            Refusal::NotDerived(line) => line.as_str(),
             Refusal::Memory => "out of memory\n",
         }
     }

@@ -44,7 +44,8 @@ impl Status {
     }
 }
 
-/// With which of two statuses a command ends that puts its text: with its output, or with `no plan`.
+/// With which of two statuses a command ends that puts its text: with its output, or with
+/// `no plan`.
 #[derive(Clone, Copy, Debug, PartialEq, Eq)]
 pub enum Ending {
     Done,

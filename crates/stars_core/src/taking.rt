@@ -2,7 +2,8 @@
 ghost use Rattle.star_model.specs.WellFormed.{WellFormedCatalogue};
 ghost use Rattle.sb_outside.specs.Shelf.{Goes, GoesBy};
 ghost use Rattle.stars_core.specs.Judging.{RulesPass, CataloguePasses, QueryPasses, DerivationPasses, StopsAlways, StopsOver};
-ghost use Rattle.stars_core.specs.Shelves.{Taken, CaseTaken};
+ghost use Rattle.stars_core.specs.Shelves.{Taken};
+ghost use Rattle.stars_core.specs.Composing.{CaseTaken};
 
 use crate::read::fetch;
 use crate::{Case, Refusal, TextKind, judge_catalogue, judge_derivation, judge_query, judge_rules};
@@ -20,7 +21,8 @@ pub fn take_rules<S: Shelf>(
     name: &str,
 ) -> Result<CheckedRules, Refusal>
     ensures goes { Goes (S.state shelf.old) (S.state shelf.new) }
-    ensures taken { Taken RulesPass (StopsAlways TextKind.Rules) (S.state shelf.old) (S.state shelf.new) (TextKind.Rules, name.now) result }
+    ensures taken { Taken RulesPass (StopsAlways TextKind.Rules) (S.state shelf.old)
+        (S.state shelf.new) (TextKind.Rules, name.now) result }
 {
     let text = fetch(alloc, shelf, TextKind::Rules, name)?;
     judge_rules(alloc, text.as_slice())
@@ -28,7 +30,8 @@ pub fn take_rules<S: Shelf>(
 
 fn take_catalogue<S: Shelf>(alloc: Global, shelf: &mut S, name: &str) -> Result<Catalogue, Refusal>
     ensures goes { Goes (S.state shelf.old) (S.state shelf.new) }
-    ensures taken { Taken CataloguePasses (StopsAlways TextKind.Catalogue) (S.state shelf.old) (S.state shelf.new) (TextKind.Catalogue, name.now) result }
+    ensures taken { Taken CataloguePasses (StopsAlways TextKind.Catalogue) (S.state shelf.old)
+        (S.state shelf.new) (TextKind.Catalogue, name.now) result }
 {
     let text = fetch(alloc, shelf, TextKind::Catalogue, name)?;
     judge_catalogue(alloc, text.as_slice())
@@ -42,7 +45,8 @@ fn take_query<S: Shelf>(
 ) -> Result<Query, Refusal>
     requires { WellFormedCatalogue catalogue.now }
     ensures goes { Goes (S.state shelf.old) (S.state shelf.new) }
-    ensures taken { Taken (QueryPasses catalogue.now) (StopsOver catalogue.now) (S.state shelf.old) (S.state shelf.new) (TextKind.Query, name.now) result }
+    ensures taken { Taken (QueryPasses catalogue.now) (StopsOver catalogue.now) (S.state shelf.old)
+        (S.state shelf.new) (TextKind.Query, name.now) result }
 {
     let text = fetch(alloc, shelf, TextKind::Query, name)?;
     judge_query(alloc, catalogue, text.as_slice())
@@ -51,7 +55,8 @@ fn take_query<S: Shelf>(
 // The derivation of the file of this name.
 pub fn take_derivation<S: Shelf>(alloc: Global, shelf: &mut S, name: &str) -> Result<Deriv, Refusal>
     ensures goes { Goes (S.state shelf.old) (S.state shelf.new) }
-    ensures taken { Taken DerivationPasses (StopsAlways TextKind.Derivation) (S.state shelf.old) (S.state shelf.new) (TextKind.Derivation, name.now) result }
+    ensures taken { Taken DerivationPasses (StopsAlways TextKind.Derivation) (S.state shelf.old)
+        (S.state shelf.new) (TextKind.Derivation, name.now) result }
 {
     let text = fetch(alloc, shelf, TextKind::Derivation, name)?;
     judge_derivation(alloc, text.as_slice())
@@ -66,7 +71,8 @@ pub fn take_case<S: Shelf>(
     query: &str,
 ) -> Result<Case, Refusal>
     ensures goes { GoesBy 3 (S.state shelf.old) (S.state shelf.new) }
-    ensures taken { CaseTaken (S.state shelf.old) (S.state shelf.new) rules.now catalogue.now query.now result }
+    ensures taken { CaseTaken (S.state shelf.old) (S.state shelf.new) rules.now catalogue.now
+        query.now result }
 {
     let rules = take_rules(alloc, shelf, rules)?;
     let catalogue = take_catalogue(alloc, shelf, catalogue)?;

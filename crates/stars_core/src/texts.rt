@@ -1,7 +1,7 @@
 // The answers of texts that come from anywhere.
 //
-// These calls have no premise on where the texts come from, so they say of the bytes of real files what `stars` says of a
-// shelf that tells what it holds.
+// These calls have no premise on where the texts come from, so they say of the bytes of real files
+// what `stars` says of a shelf that tells what it holds.
 ghost use Rattle.std.specs.Prelude.{[], ◌∷◌};
 ghost use Rattle.stars_core.specs.Saying.{three, four};
 ghost use Rattle.stars_core.specs.Judged.{AnswersOf, CaseOf};
@@ -67,7 +67,8 @@ pub fn verify_texts(
     query: &[u8],
     derivation: &[u8],
 ) -> Result<Answer, Refusal>
-    ensures { AnswersOf Command.Verify (four rules.now catalogue.now query.now derivation.now) result }
+    ensures { AnswersOf Command.Verify (four rules.now catalogue.now query.now derivation.now)
+        result }
 {
     let case = judge_case(alloc, rules, catalogue, query)?;
     let derivation = judge_derivation(alloc, derivation)?;

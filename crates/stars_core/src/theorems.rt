@@ -17,24 +17,32 @@ use crate::{Command, Status};
 
 /// One text has at most one verdict.
 pub fn one_verdict()
-    ensures { (earlier : List Given) (this : Given) (a b : Verdict) → Judged earlier this a → Judged earlier this b → a ≡ b }
+    ensures { (earlier : List Given) (this : Given) (a b : Verdict) → Judged earlier this a
+        → Judged earlier this b → a ≡ b }
 {}
 
 /// Texts say at most one thing to a command.
 pub fn one_reading()
-    ensures { (command : Command) (given : List Given) (a b : Saying command) → Says command given a → Says command given b → a ≡ b }
+    ensures { (command : Command) (given : List Given) (a b : Saying command) → Says command given a
+        → Says command given b → a ≡ b }
 {}
 
-/// Where a run is done, told or not, some texts say something, and what was put out is the command's answer of it.
+/// Where a run is done, told or not, some texts say something, and what was put out is the
+/// command's answer of it.
 pub fn done_says()
-    ensures { (words : CommandLine) (shelf shelf' : ShelfState) (out out' err err' : SinkState) → Answered Status.Done words shelf shelf' out out' err err' → DoneSays words out out' }
+    ensures { (words : CommandLine) (shelf shelf' : ShelfState) (out out' err err' : SinkState)
+        → Answered Status.Done words shelf shelf' out out' err err' → DoneSays words out out' }
 {}
 
-/// Three texts that have no fault are accepted, and say the rules and the query that they are judged to spell, each predicate with the
-/// selectivity that the rules give.
+/// Three texts that have no fault are accepted, and say the rules and the query that they are
+/// judged to spell, each predicate with the selectivity that the rules give.
 pub fn texts_without_fault_say()
-    ensures pass { (r c q : List ℕ) (rules : RuleFile) (catalogue : CatalogueTree) (query : QueryTree) → RulesPass r rules → CataloguePasses c catalogue → QueryPasses catalogue q query
+    ensures pass { (r c q : List ℕ) (rules : RuleFile) (catalogue : CatalogueTree)
+        (query : QueryTree) → RulesPass r rules → CataloguePasses c catalogue
+        → QueryPasses catalogue q query
         → PassAll [] (three r c q) }
-    ensures say { (r c q : List ℕ) (rules : RuleFile) (catalogue : CatalogueTree) (query : QueryTree) → RulesPass r rules → CataloguePasses c catalogue → QueryPasses catalogue q query
+    ensures say { (r c q : List ℕ) (rules : RuleFile) (catalogue : CatalogueTree)
+        (query : QueryTree) → RulesPass r rules → CataloguePasses c catalogue
+        → QueryPasses catalogue q query
         → SaysCase r c q rules (weighed (selects_of rules) query) }
 {}

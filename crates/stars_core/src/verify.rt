@@ -25,7 +25,8 @@ fn derived_line(alloc: Global, props: &Props) -> Result<String, AllocError>
 }
 
 fn verified(alloc: Global, props: &Props) -> Result<Answer, AllocError>
-    ensures { IfOk result (λ answer. (answer.ending ≡ Done) × (answer.text.items ≡ derived_line props.now)) }
+    ensures { IfOk result (λ answer. (answer.ending ≡ Done)
+        × (answer.text.items ≡ derived_line props.now)) }
 {
     let line = derived_line(alloc, props)?;
     Ok(Answer {
@@ -39,11 +40,12 @@ fn denied(alloc: Global, node: u32) -> Refusal
 {
     match not_derived_line(alloc, node) {
         Ok(line) => Refusal::NotDerived(line),
-        Err(_) => Refusal::Memory,
+        Err(AllocError) => Refusal::Memory,
     }
 }
 
-/// The numbers of a derivation's plan, or its first invalid node where it isn't one of the query by the rules.
+/// The numbers of a derivation's plan, or its first invalid node where it isn't one of the query by
+/// the rules.
 ///
 /// Nothing is searched: the derivation is judged node by node.
 pub fn verify_query(

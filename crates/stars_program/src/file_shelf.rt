@@ -34,13 +34,15 @@ impl<'a, R: Files> FileShelf<'a, R> {
         }
     }
 
-    // The bytes of a file, where they are at most `max`, counted as a call that takes them. A fault isn't counted.
+    // The bytes of a file, where they are at most `max`, counted as a call that takes them. A fault
+    // isn't counted.
     fn take(&mut self, alloc: Global, name: &str, max: usize) -> Result<Vec<u8>, ShelfFault>
         ensures calls { RoseAtMost 1 self.old.calls self.new.calls }
         ensures faults { (self.new.faults ≡ self.old.faults) × (self.new.last ≡ self.old.last) }
         ensures taken { self.old.taken ≤ self.new.taken }
         ensures within { IfOk result (λ bytes. length bytes.items ≤ max) }
-        ensures too_long { IsErrOf result ShelfFault.TooLong → RoseBy (max + 1) self.old.taken self.new.taken }
+        ensures too_long { IsErrOf result ShelfFault.TooLong
+            → RoseBy (max + 1) self.old.taken self.new.taken }
     {
         self.calls = self.calls.saturating_add(1);
         let bytes = match read_front(self.files, alloc, name, max) {
@@ -66,7 +68,8 @@ impl<'a, R: Files> FileShelf<'a, R> {
         ensures faults { (self.new.faults ≡ self.old.faults) × (self.new.last ≡ self.old.last) }
         ensures taken { self.old.taken ≤ self.new.taken }
         ensures within { IfOk result (λ table. TellsRecords None name.now max table) }
-        ensures too_long { IsErrOf result ShelfFault.TooLong → RoseBy (max + 1) self.old.taken self.new.taken }
+        ensures too_long { IsErrOf result ShelfFault.TooLong
+            → RoseBy (max + 1) self.old.taken self.new.taken }
     {
         let bytes = self.take(alloc, name, max)?;
         Ok(read_table(alloc, bytes.as_slice())?)
@@ -75,7 +78,8 @@ impl<'a, R: Files> FileShelf<'a, R> {
     // Counts a fault, and keeps the call.
     fn count_failed(&mut self, call: FailedCall)
         ensures counts { (self.new.calls ≡ self.old.calls) × (self.new.taken ≡ self.old.taken) }
-        ensures faults { (self.old.faults ≤ self.new.faults) × Rose self.old.faults self.new.faults }
+        ensures faults { (self.old.faults ≤ self.new.faults)
+            × Rose self.old.faults self.new.faults }
         ensures kept { self.new.last ≡ Some call }
     {
         self.faults = self.faults.saturating_add(1);

@@ -56,7 +56,8 @@ fn push_row(
 
 // The number of rows and their values, of a table with so many columns.
 fn rows_of(alloc: Global, table: &Table, columns: u8) -> Result<String, AllocError>
-    requires { (row : ℕ) → row < length table.now → length (slice_index_or table.now row []) ≡ columns }
+    requires { (row : ℕ) → row < length table.now
+        → length (slice_index_or table.now row []) ≡ columns }
 {
     let rows = table.rows();
     let mut told = format!(in alloc; "rows {rows}")?;

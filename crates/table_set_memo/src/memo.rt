@@ -56,7 +56,8 @@ impl Memo {
         self.sets.get(goal)
     }
 
-    /// Adds the goal with its set. Where memory is wanting, the memo stays as it is and the set is dropped.
+    /// Adds the goal with its set. Where memory is wanting, the memo stays as it is and the set is
+    /// dropped.
     pub fn put(&mut self, goal: Goal, plans: PlanSet<Entry>) -> Result<(), AllocError>
         requires { plans_at self.old goal ≡ None }
         ensures put { OnOk result (self.new ≡ self.old ++ (goal, plans) ∷ []) }
@@ -66,7 +67,8 @@ impl Memo {
         Ok(())
     }
 
-    /// Takes the goal with its set out, if it is held. The others keep their order. It takes no memory.
+    /// Takes the goal with its set out, if it is held. The others keep their order. It takes no
+    /// memory.
     pub fn remove(&mut self, goal: &Goal) -> Option<PlanSet<Entry>>
         ensures set { result ≡ plans_at self.old goal.now }
         ensures others { self.new ≡ filter (λ s. not (same_goal goal.now s.0)) self.old }

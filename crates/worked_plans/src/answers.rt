@@ -2,7 +2,8 @@
 ghost use Rattle.std.specs.Prelude.{[], ◌∷◌};
 ghost use Rattle.worked_plans.specs.WordRows.{row_a, row_b, AreAnswer};
 
-/// The words of two tables that are the same, sorted by the numbers beside them: each row once, and none left out.
+/// The words of two tables that are the same, sorted by the numbers beside them: each row once, and
+/// none left out.
 pub fn rows_of_two_tables()
     ensures sorted { AreAnswer (row_b ∷ row_a ∷ []) }
     ensures exchanged { AreAnswer (row_a ∷ row_b ∷ []) → ⊥ }

@@ -87,32 +87,38 @@ pub fn card_of_cities_under_standard()
 
 /// The rows of `access_index` for `names_of_department.query`, with the costs of `standard.rules`.
 pub fn access_index_of_names_of_department_under_standard()
-    ensures { StepsAs query.names_of_department rules.standard row.access_index_of_names_of_department_under_standard }
+    ensures { StepsAs query.names_of_department rules.standard
+        row.access_index_of_names_of_department_under_standard }
 {}
 
 /// The rows of `filter` for `names_of_department.query`, with the costs of `standard.rules`.
 pub fn filter_of_names_of_department_under_standard()
-    ensures { StepsAs query.names_of_department rules.standard row.filter_of_names_of_department_under_standard }
+    ensures { StepsAs query.names_of_department rules.standard
+        row.filter_of_names_of_department_under_standard }
 {}
 
 /// The rows of `get` for `names_of_department.query`, with the costs of `standard.rules`.
 pub fn get_of_names_of_department_under_standard()
-    ensures { StepsAs query.names_of_department rules.standard row.get_of_names_of_department_under_standard }
+    ensures { StepsAs query.names_of_department rules.standard
+        row.get_of_names_of_department_under_standard }
 {}
 
 /// The rows of `sort` for `names_of_department.query`, with the costs of `standard.rules`.
 pub fn sort_of_names_of_department_under_standard()
-    ensures { StepsAs query.names_of_department rules.standard row.sort_of_names_of_department_under_standard }
+    ensures { StepsAs query.names_of_department rules.standard
+        row.sort_of_names_of_department_under_standard }
 {}
 
 /// The rows of `join_nl` for `names_of_department.query`, with the costs of `standard.rules`.
 pub fn join_nl_of_names_of_department_under_standard()
-    ensures { StepsAs query.names_of_department rules.standard row.join_nl_of_names_of_department_under_standard }
+    ensures { StepsAs query.names_of_department rules.standard
+        row.join_nl_of_names_of_department_under_standard }
 {}
 
 /// The rows of `join_hash` for `names_of_department.query`, with the costs of `standard.rules`.
 pub fn join_hash_of_names_of_department_under_standard()
-    ensures { StepsAs query.names_of_department rules.standard row.join_hash_of_names_of_department_under_standard }
+    ensures { StepsAs query.names_of_department rules.standard
+        row.join_hash_of_names_of_department_under_standard }
 {}
 
 /// The rows of `card` for `names_of_department.query`, with the costs of `standard.rules`.
@@ -122,7 +128,8 @@ pub fn card_of_names_of_department_under_standard()
 
 /// The rows of `access_heap` for `french_orders.query`, with the costs of `standard.rules`.
 pub fn access_heap_of_french_orders_under_standard()
-    ensures { StepsAs query.french_orders rules.standard row.access_heap_of_french_orders_under_standard }
+    ensures { StepsAs query.french_orders rules.standard
+        row.access_heap_of_french_orders_under_standard }
 {}
 
 /// The rows of `ship` for `french_orders.query`, with the costs of `standard.rules`.
@@ -132,7 +139,8 @@ pub fn ship_of_french_orders_under_standard()
 
 /// The rows of `access_index` for `french_orders.query`, with the costs of `standard.rules`.
 pub fn access_index_of_french_orders_under_standard()
-    ensures { StepsAs query.french_orders rules.standard row.access_index_of_french_orders_under_standard }
+    ensures { StepsAs query.french_orders rules.standard
+        row.access_index_of_french_orders_under_standard }
 {}
 
 /// The rows of `get` for `french_orders.query`, with the costs of `standard.rules`.
@@ -142,7 +150,8 @@ pub fn get_of_french_orders_under_standard()
 
 /// The rows of `filter` for `french_orders.query`, with the costs of `standard.rules`.
 pub fn filter_of_french_orders_under_standard()
-    ensures { StepsAs query.french_orders rules.standard row.filter_of_french_orders_under_standard }
+    ensures { StepsAs query.french_orders rules.standard
+        row.filter_of_french_orders_under_standard }
 {}
 
 /// The rows of `sort` for `french_orders.query`, with the costs of `standard.rules`.
@@ -157,17 +166,20 @@ pub fn store_of_french_orders_under_standard()
 
 /// The rows of `join_nl` for `french_orders.query`, with the costs of `standard.rules`.
 pub fn join_nl_of_french_orders_under_standard()
-    ensures { StepsAs query.french_orders rules.standard row.join_nl_of_french_orders_under_standard }
+    ensures { StepsAs query.french_orders rules.standard
+        row.join_nl_of_french_orders_under_standard }
 {}
 
 /// The rows of `join_hash` for `french_orders.query`, with the costs of `standard.rules`.
 pub fn join_hash_of_french_orders_under_standard()
-    ensures { StepsAs query.french_orders rules.standard row.join_hash_of_french_orders_under_standard }
+    ensures { StepsAs query.french_orders rules.standard
+        row.join_hash_of_french_orders_under_standard }
 {}
 
 /// The rows of `join_merge` for `french_orders.query`, with the costs of `standard.rules`.
 pub fn join_merge_of_french_orders_under_standard()
-    ensures { StepsAs query.french_orders rules.standard row.join_merge_of_french_orders_under_standard }
+    ensures { StepsAs query.french_orders rules.standard
+        row.join_merge_of_french_orders_under_standard }
 {}
 
 /// The rows of `satisfies` for `french_orders.query`, with the costs of `standard.rules`.
@@ -222,7 +234,8 @@ pub fn access_heap_of_generated_under_variables()
 
 /// The rows of `access_index` for `generated.query`, with the costs of `variables.rules`.
 pub fn access_index_of_generated_under_variables()
-    ensures { StepsAs query.generated rules.variables row.access_index_of_generated_under_variables }
+    ensures { StepsAs query.generated rules.variables
+        row.access_index_of_generated_under_variables }
 {}
 
 /// The rows of `store` for `generated.query`, with the costs of `variables.rules`.
@@ -267,37 +280,44 @@ pub fn join_hash_of_generated_under_variables()
 
 /// The rows of `access_heap` for `french_orders.query`, with the costs of `variables.rules`.
 pub fn access_heap_of_french_orders_under_variables()
-    ensures { StepsAs query.french_orders rules.variables row.access_heap_of_french_orders_under_variables }
+    ensures { StepsAs query.french_orders rules.variables
+        row.access_heap_of_french_orders_under_variables }
 {}
 
 /// The rows of `ship` for `french_orders.query`, with the costs of `variables.rules`.
 pub fn ship_of_french_orders_under_variables()
-    ensures { StepsAs query.french_orders rules.variables row.ship_of_french_orders_under_variables }
+    ensures { StepsAs query.french_orders rules.variables
+        row.ship_of_french_orders_under_variables }
 {}
 
 /// The rows of `sort` for `french_orders.query`, with the costs of `variables.rules`.
 pub fn sort_of_french_orders_under_variables()
-    ensures { StepsAs query.french_orders rules.variables row.sort_of_french_orders_under_variables }
+    ensures { StepsAs query.french_orders rules.variables
+        row.sort_of_french_orders_under_variables }
 {}
 
 /// The rows of `access_index` for `french_orders.query`, with the costs of `variables.rules`.
 pub fn access_index_of_french_orders_under_variables()
-    ensures { StepsAs query.french_orders rules.variables row.access_index_of_french_orders_under_variables }
+    ensures { StepsAs query.french_orders rules.variables
+        row.access_index_of_french_orders_under_variables }
 {}
 
 /// The rows of `join_hash` for `french_orders.query`, with the costs of `variables.rules`.
 pub fn join_hash_of_french_orders_under_variables()
-    ensures { StepsAs query.french_orders rules.variables row.join_hash_of_french_orders_under_variables }
+    ensures { StepsAs query.french_orders rules.variables
+        row.join_hash_of_french_orders_under_variables }
 {}
 
 /// The rows of `join_merge` for `french_orders.query`, with the costs of `variables.rules`.
 pub fn join_merge_of_french_orders_under_variables()
-    ensures { StepsAs query.french_orders rules.variables row.join_merge_of_french_orders_under_variables }
+    ensures { StepsAs query.french_orders rules.variables
+        row.join_merge_of_french_orders_under_variables }
 {}
 
 /// The rows of `join_nl` for `french_orders.query`, with the costs of `variables.rules`.
 pub fn join_nl_of_french_orders_under_variables()
-    ensures { StepsAs query.french_orders rules.variables row.join_nl_of_french_orders_under_variables }
+    ensures { StepsAs query.french_orders rules.variables
+        row.join_nl_of_french_orders_under_variables }
 {}
 
 /// The rows of `access_heap` for `shipped.query`, with the costs of `variables.rules`.
@@ -327,7 +347,8 @@ pub fn filter_of_shipped_under_variables()
 
 /// The rows of `access_heap` for `two_tables.query`, with the costs of `variables.rules`.
 pub fn access_heap_of_two_tables_under_variables()
-    ensures { StepsAs query.two_tables rules.variables row.access_heap_of_two_tables_under_variables }
+    ensures { StepsAs query.two_tables rules.variables
+        row.access_heap_of_two_tables_under_variables }
 {}
 
 /// The rows of `ship` for `two_tables.query`, with the costs of `variables.rules`.
@@ -387,27 +408,32 @@ pub fn canon_of_chain_under_standard()
 
 /// The rows of `access_index` for `own_department.query`, with the costs of `standard.rules`.
 pub fn access_index_of_own_department_under_standard()
-    ensures { StepsAs query.own_department rules.standard row.access_index_of_own_department_under_standard }
+    ensures { StepsAs query.own_department rules.standard
+        row.access_index_of_own_department_under_standard }
 {}
 
 /// The rows of `filter` for `own_department.query`, with the costs of `standard.rules`.
 pub fn filter_of_own_department_under_standard()
-    ensures { StepsAs query.own_department rules.standard row.filter_of_own_department_under_standard }
+    ensures { StepsAs query.own_department rules.standard
+        row.filter_of_own_department_under_standard }
 {}
 
 /// The rows of `sort` for `own_department.query`, with the costs of `standard.rules`.
 pub fn sort_of_own_department_under_standard()
-    ensures { StepsAs query.own_department rules.standard row.sort_of_own_department_under_standard }
+    ensures { StepsAs query.own_department rules.standard
+        row.sort_of_own_department_under_standard }
 {}
 
 /// The rows of `store` for `own_department.query`, with the costs of `standard.rules`.
 pub fn store_of_own_department_under_standard()
-    ensures { StepsAs query.own_department rules.standard row.store_of_own_department_under_standard }
+    ensures { StepsAs query.own_department rules.standard
+        row.store_of_own_department_under_standard }
 {}
 
 /// The rows of `probe` for `own_department.query`, with the costs of `standard.rules`.
 pub fn probe_of_own_department_under_standard()
-    ensures { StepsAs query.own_department rules.standard row.probe_of_own_department_under_standard }
+    ensures { StepsAs query.own_department rules.standard
+        row.probe_of_own_department_under_standard }
 {}
 
 /// The rows of `canon` for `own_department.query`, with the costs of `standard.rules`.
@@ -432,12 +458,14 @@ pub fn canon_of_colleagues_under_standard()
 
 /// The rows of `access_index` for `two_indexes.query`, with the costs of `intersect.rules`.
 pub fn access_index_of_two_indexes_under_intersect()
-    ensures { StepsAs query.two_indexes rules.intersect row.access_index_of_two_indexes_under_intersect }
+    ensures { StepsAs query.two_indexes rules.intersect
+        row.access_index_of_two_indexes_under_intersect }
 {}
 
 /// The rows of `intersect` for `two_indexes.query`, with the costs of `intersect.rules`.
 pub fn intersect_of_two_indexes_under_intersect()
-    ensures { StepsAs query.two_indexes rules.intersect row.intersect_of_two_indexes_under_intersect }
+    ensures { StepsAs query.two_indexes rules.intersect
+        row.intersect_of_two_indexes_under_intersect }
 {}
 
 /// The rows of `get` for `two_indexes.query`, with the costs of `intersect.rules`.

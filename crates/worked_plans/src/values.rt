@@ -96,12 +96,14 @@ pub fn inside_of_own_department()
 
 /// The rows of `equalities` for `own_department.query`.
 pub fn equalities_of_own_department()
-    ensures { MeanAs query.own_department row.bound_in_own_department row.equalities_of_own_department }
+    ensures { MeanAs query.own_department row.bound_in_own_department
+        row.equalities_of_own_department }
 {}
 
 /// The rows of `crossing` for `own_department.query`.
 pub fn crossing_of_own_department()
-    ensures { MeanAs query.own_department row.bound_in_own_department row.crossing_of_own_department }
+    ensures { MeanAs query.own_department row.bound_in_own_department
+        row.crossing_of_own_department }
 {}
 
 /// The rows of `keys` for `own_department.query`.
@@ -111,32 +113,38 @@ pub fn keys_of_own_department()
 
 /// The rows of `columns` for `ids_by_department.query`.
 pub fn columns_of_ids_by_department()
-    ensures { MeanAs query.ids_by_department row.bound_in_ids_by_department row.columns_of_ids_by_department }
+    ensures { MeanAs query.ids_by_department row.bound_in_ids_by_department
+        row.columns_of_ids_by_department }
 {}
 
 /// The rows of `orderby` for `ids_by_department.query`.
 pub fn orderby_of_ids_by_department()
-    ensures { MeanAs query.ids_by_department row.bound_in_ids_by_department row.orderby_of_ids_by_department }
+    ensures { MeanAs query.ids_by_department row.bound_in_ids_by_department
+        row.orderby_of_ids_by_department }
 {}
 
 /// The rows of `begins` for `ids_by_department.query`.
 pub fn begins_of_ids_by_department()
-    ensures { HoldAs query.ids_by_department row.bound_in_ids_by_department row.begins_of_ids_by_department }
+    ensures { HoldAs query.ids_by_department row.bound_in_ids_by_department
+        row.begins_of_ids_by_department }
 {}
 
 /// The rows of `same` for `ids_by_department.query`.
 pub fn same_of_ids_by_department()
-    ensures { HoldAs query.ids_by_department row.bound_in_ids_by_department row.same_of_ids_by_department }
+    ensures { HoldAs query.ids_by_department row.bound_in_ids_by_department
+        row.same_of_ids_by_department }
 {}
 
 /// The rows of `empty` for `ids_by_department.query`.
 pub fn empty_of_ids_by_department()
-    ensures { HoldAs query.ids_by_department row.bound_in_ids_by_department row.empty_of_ids_by_department }
+    ensures { HoldAs query.ids_by_department row.bound_in_ids_by_department
+        row.empty_of_ids_by_department }
 {}
 
 /// The rows of `indexes` for `ids_by_department.query`.
 pub fn indexes_of_ids_by_department()
-    ensures { RangeAs query.ids_by_department row.bound_in_ids_by_department row.indexes_of_ids_by_department }
+    ensures { RangeAs query.ids_by_department row.bound_in_ids_by_department
+        row.indexes_of_ids_by_department }
 {}
 
 /// The rows of `name` for `french_orders.query`.
@@ -211,7 +219,8 @@ pub fn between_of_french_orders()
 
 /// The rows of `equalities` for `french_orders.query`.
 pub fn equalities_of_french_orders()
-    ensures { MeanAs query.french_orders row.bound_in_french_orders row.equalities_of_french_orders }
+    ensures { MeanAs query.french_orders row.bound_in_french_orders
+        row.equalities_of_french_orders }
 {}
 
 /// The rows of `indexable` for `french_orders.query`.

@@ -2,3 +2,4 @@ mod LimitsKept
 mod TinyAccepted
 mod TinyRules
 mod Witness
+mod RunWitness

@@ -45,13 +45,13 @@ column = record { name = codes "a"; kind = type.Int; width = 8; distinct = 1 }
 abbrev table : TablePart
 table = record { name = codes "t"; site = codes "s"; rows = 1; pages = 1; file = codes "f"; columns = column ∷ [] }
 
-abbrev catalogue : CatalogueTree
+abbrev pub catalogue : CatalogueTree
 catalogue = record { sites = site ∷ []; tables = table_from 0 table ∷ []; indexes = [] }
 
-abbrev catalogue_text : List ℕ
+abbrev pub catalogue_text : List ℕ
 catalogue_text = codes "site s cpu 1 net 1;table t at s rows 1 pages 1 file 'f'(a int width 8 distinct 1);"
 
-abbrev query_text : List ℕ
+abbrev pub query_text : List ℕ
 query_text = codes "select t.a from t;"
 
 -- ---- the catalogue
@@ -161,7 +161,7 @@ table_within limit.OrderBy h = h
 within : NoneHas IsBeyond statements
 within = (λ beyond. site_within beyond.0 beyond.1, (λ beyond. table_within beyond.0 beyond.1, tt))
 
-catalogue_passes : CataloguePasses catalogue_text catalogue
+pub catalogue_passes : CataloguePasses catalogue_text catalogue
 catalogue_passes = record {
   size = omega arith;
   read = record {
@@ -173,7 +173,7 @@ catalogue_passes = record {
 
 -- ---- the query
 
-abbrev query : QueryTree
+abbrev pub query : QueryTree
 query = record {
   catalogue = catalogue;
   quants = record { name = codes "t"; table = 0 } ∷ [];
@@ -255,7 +255,7 @@ limits_kept limit.Predicates h = omega arith
 limits_kept limit.Select h = omega arith
 limits_kept limit.OrderBy h = omega arith
 
-query_passes : QueryPasses catalogue query_text query
+pub query_passes : QueryPasses catalogue query_text query
 query_passes = record {
   size = omega arith;
   read = accepted_query catalogue query_text selection query_accepted query_says names_known names_once limits_kept query query_means tt query_formed;

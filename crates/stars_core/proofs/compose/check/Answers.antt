@@ -15,12 +15,19 @@ returns-in_err-rules-clause-ran g c =
 
 pub returns-clause-ran : goal.returns-clause-ran
 returns-clause-ran g c =
-    let r = c.in_ok-rules.ensures.taken in (
+    let r = c.in_ok-rules.ensures.taken in
+    rw c.of.ensures.ending (
       r.0,
       (
         (Rules, r.1) ∷ [],
         (refl, r.2, tt),
         (rules_pass r.1 c.in_ok-rules.rules r.3 [], tt),
-        record { saying = c.in_ok-rules.rules; says = says_rules r.1 c.in_ok-rules.rules r.3; answer = c.in_ok-answer.ensures },
+        record {
+          text = c.in_ok-answer.answer.text.items;
+          answer = record { saying = c.in_ok-rules.rules; says = says_rules r.1 c.in_ok-rules.rules r.3; answer = c.in_ok-answer.ensures };
+          more = [];
+          further = refl;
+          are = c.of.ensures.pieces;
+        },
       ),
     )

@@ -1,5 +1,5 @@
 use Rattle.std.proofs.lemmas.Result.{err_from_is_err_and}
-use Rattle.std.proofs.Common.{[]}
+use Rattle.std.proofs.Common.{[], refl}
 use Rattle.stars_core.specs.declared.command.Command.TheVariants.{Plan}
 use Rattle.stars_core.specs.Saying.{three}
 use Rattle.stars_core.proofs.Says.{spelled_plan}
@@ -14,12 +14,19 @@ plan_query-requires g c = c.in_ok-case.ensures.taken.4.formed
 
 pub returns-clause-ran : goal.returns-clause-ran
 returns-clause-ran g c =
-    let t = c.in_ok-case.ensures.taken in (
+    let t = c.in_ok-case.ensures.taken in
+    rw c.of.ensures.ending (
       t.3.quiet,
       (
         three t.0 t.1 t.2,
         t.3.held,
         t.3.accepted,
-        record { saying = (c.in_ok-case.case.rules, c.in_ok-case.case.query); says = t.4; answer = spelled_plan t.0 c.in_ok-case.case.rules c.in_ok-case.case.query t.4.of_rules _ _ c.in_ok-answer.ensures },
+        record {
+          text = c.in_ok-answer.answer.text.items;
+          answer = record { saying = (c.in_ok-case.case.rules, c.in_ok-case.case.query); says = t.4; answer = spelled_plan t.0 c.in_ok-case.case.rules c.in_ok-case.case.query t.4.of_rules _ _ c.in_ok-answer.ensures };
+          more = [];
+          further = refl;
+          are = c.of.ensures.pieces;
+        },
       ),
     )

@@ -1,0 +1,8 @@
+use Rattle.std.proofs.Common.{refl}
+use Rattle.workload_gen.specs.Draws.{state_of_seed, next_state, value_from, drawn}
+use Rattle.workload_gen.specs.Tables.{rows_at, drawn_tables}
+use Rattle.workload_gen.proofs.theorems.two_tables_of_seed_1.Goals as goal
+
+pub returns : goal.returns
+unfolding state_of_seed next_state value_from drawn rows_at drawn_tables
+returns c = record { rows = refl; pages = refl; indexes = refl }
