@@ -1,6 +1,7 @@
 -- Which fault a text has.
 use Rattle.std.proofs.Common.{subst, ◌≡◌, ◌<◌, ◌≤◌, ◌++◌, ℕ, List, [], ◌∷◌, length, Option, Some, Ok, Err, refl, ap, sym, ◌∙◌, inl, inr, arith}
 use Rattle.std.proofs.lemmas.List.{append-nil, append_assoc}
+use Rattle.sb_text.specs.Limits.{most_text_bytes}
 use Rattle.star_model.specs.Accepted.{IsAccepted, IsRefusedBy}
 use Rattle.star_model.specs.declared.faults.RuleFault.{RuleFault}
 use Rattle.star_model.specs.declared.faults.RuleFault.TheVariants as rul
@@ -89,21 +90,21 @@ one_verdict earlier this Accepted (Stopped line) p q = absurd (stopped_passes ea
 one_verdict earlier this (Stopped line) Accepted p q = absurd (stopped_passes earlier this line p q)
 one_verdict earlier this (Stopped a) (Stopped b) p q = ap (λ l. Stopped l) (one_stop earlier this a b p q)
 
-not_long : (earlier : List Given) (this : Given) → length this.1 ≤ 1048576 → (other : List ℕ) → HasFault earlier this TooLong other → ⊥
+not_long : (earlier : List Given) (this : Given) → length this.1 ≤ most_text_bytes → (other : List ℕ) → HasFault earlier this TooLong other → ⊥
 not_long earlier this most other p = omega (arith, p.0, most)
 
 -- what is too long is stopped, whatever stands before it
-pub long_stops : (earlier : List Given) (this : Given) (line : List ℕ) → 1048576 < length this.1 → line ≡ too_long_line this.0 → Stops earlier this line
+pub long_stops : (earlier : List Given) (this : Given) (line : List ℕ) → most_text_bytes < length this.1 → line ≡ too_long_line this.0 → Stops earlier this line
 long_stops earlier this line long is = inl (long, is)
 
-pub misread_stops : (earlier : List Given) (this : Given) (line : List ℕ) → length this.1 ≤ 1048576 → IsMisread earlier this line → Stops earlier this line
+pub misread_stops : (earlier : List Given) (this : Given) (line : List ℕ) → length this.1 ≤ most_text_bytes → IsMisread earlier this line → Stops earlier this line
 misread_stops earlier this line size misread = inr (not_long earlier this size, inl misread)
 
-pub rejected_stops : (earlier : List Given) (this : Given) (line : List ℕ) → length this.1 ≤ 1048576
+pub rejected_stops : (earlier : List Given) (this : Given) (line : List ℕ) → length this.1 ≤ most_text_bytes
     → ((other : List ℕ) → IsMisread earlier this other → ⊥) → IsRejected this line → Stops earlier this line
 rejected_stops earlier this line size read rejected = inr (not_long earlier this size, inr (read, inl rejected))
 
-passes : (earlier : List Given) (this : Given) → length this.1 ≤ 1048576 → ((other : List ℕ) → IsMisread earlier this other → ⊥)
+passes : (earlier : List Given) (this : Given) → length this.1 ≤ most_text_bytes → ((other : List ℕ) → IsMisread earlier this other → ⊥)
     → ((other : List ℕ) → IsRejected this other → ⊥) → Passes earlier this
 passes earlier this size read fine = (not_long earlier this size, (read, (fine, tt)))
 
@@ -162,7 +163,7 @@ refuses_map kind P Q Memory f p = tt
 
 -- a text that is too long is refused, whatever stands before it
 pub long_refuses : (kind : TextKind) (bytes : List ℕ) (P : List ℕ → Type 0) (refusal : Refusal)
-    → Refuses kind (λ line. (1048576 < length bytes) × (line ≡ too_long_line kind)) refusal
+    → Refuses kind (λ line. (most_text_bytes < length bytes) × (line ≡ too_long_line kind)) refusal
     → ((line : List ℕ) → ((earlier : List Given) → Stops earlier (kind, bytes) line) → P line) → Refuses kind P refusal
 long_refuses kind bytes P (Refused k l) long p = (long.0, p _ (λ earlier. long_stops earlier (kind, bytes) _ long.1.0 long.1.1))
 long_refuses kind bytes P refusals.Memory long p = tt
@@ -221,12 +222,12 @@ check_refuses rules fault checks refusal told =
     is_refused (rul.TooWide k w) line told checks = checks
     is_refused rul.Memory line told checks = absurd cc
 
-pub misread_rules_refuse : (r : List ℕ) → length r ≤ 1048576 → (refusal : Refusal) → RulesRead r (Err refusal) → Refuses Rules (StopsAlways Rules r) refusal
+pub misread_rules_refuse : (r : List ℕ) → length r ≤ most_text_bytes → (refusal : Refusal) → RulesRead r (Err refusal) → Refuses Rules (StopsAlways Rules r) refusal
 misread_rules_refuse r size refusal told =
     refuses_map Rules (λ line. (f : RuleFault) × rule_files.IsFirstFault r f × (rules_line f ≡ Some line)) (StopsAlways Rules r) refusal
     (λ line told. λ earlier. misread_stops earlier (Rules, r) line size told) told
 
-module _ (r : List ℕ) (size : length r ≤ 1048576) (rules : RuleFile) (reads : rule_files.ReadsRules r (Ok rules)) where
+module _ (r : List ℕ) (size : length r ≤ most_text_bytes) (rules : RuleFile) (reads : rule_files.ReadsRules r (Ok rules)) where
   pub rejected_rules_refuse : (refusal : Refusal) → RulesChecked rules (Err refusal) → Refuses Rules (StopsAlways Rules r) refusal
   rejected_rules_refuse refusal told =
       refuses_map Rules (λ line. (f : RuleFault) × IsRefusedBy rules f × (rules_line f ≡ Some line)) (StopsAlways Rules r) refusal
@@ -239,7 +240,7 @@ checked_reads r rules checked reads checks =
 
 -- ---- catalogues
 
-pub misread_catalogue_refuses : (c : List ℕ) → length c ≤ 1048576 → (fault : CatFault) → catalogue_faults.ReadsCatalogue c (Err fault)
+pub misread_catalogue_refuses : (c : List ℕ) → length c ≤ most_text_bytes → (fault : CatFault) → catalogue_faults.ReadsCatalogue c (Err fault)
     → (refusal : Refusal) → Refuses Catalogue (λ line. catalogue_line fault ≡ Some line) refusal → Refuses Catalogue (StopsAlways Catalogue c) refusal
 misread_catalogue_refuses c size fault reads refusal told =
     refuses_map Catalogue (λ line. catalogue_line fault ≡ Some line) (StopsAlways Catalogue c) refusal
@@ -256,7 +257,7 @@ misread_catalogue_refuses c size fault reads refusal told =
 
 -- ---- queries
 
-pub misread_query_refuses : (catalogue : CatalogueTree) (q : List ℕ) → length q ≤ 1048576 → (fault : QueryFault) → queries.ReadsQuery catalogue q (Err fault)
+pub misread_query_refuses : (catalogue : CatalogueTree) (q : List ℕ) → length q ≤ most_text_bytes → (fault : QueryFault) → queries.ReadsQuery catalogue q (Err fault)
     → (refusal : Refusal) → Refuses Query (λ line. query_line fault ≡ Some line) refusal → Refuses Query (StopsOver catalogue q) refusal
 misread_query_refuses catalogue q size fault reads refusal told =
     refuses_map Query (λ line. query_line fault ≡ Some line) (StopsOver catalogue q) refusal
@@ -274,7 +275,7 @@ misread_query_refuses catalogue q size fault reads refusal told =
 
 -- ---- derivations
 
-pub misread_derivation_refuses : (d : List ℕ) → length d ≤ 1048576 → (fault : DerivFault) → derivations.ReadsDerivation d (Err fault)
+pub misread_derivation_refuses : (d : List ℕ) → length d ≤ most_text_bytes → (fault : DerivFault) → derivations.ReadsDerivation d (Err fault)
     → (refusal : Refusal) → Refuses Derivation (λ line. derivation_line fault ≡ Some line) refusal → Refuses Derivation (StopsAlways Derivation d) refusal
 misread_derivation_refuses d size fault reads refusal told =
     refuses_map Derivation (λ line. derivation_line fault ≡ Some line) (StopsAlways Derivation d) refusal

@@ -3,6 +3,7 @@ use Rattle.std.proofs.Common.{◌≡◌, ◌<◌, ℕ, List, length, Result, Ok,
 use Rattle.std.specs.declared.alloc.Global.{Global}
 use Rattle.sb_outside.specs.Shelf.{ShelfState}
 use Rattle.sb_outside.proofs.Laws.{long_content}
+use Rattle.sb_text.specs.Limits.{most_text_bytes}
 use Rattle.stars_core.specs.declared.refusal.Refusal.{Refusal}
 use Rattle.stars_core.specs.declared.refusal.Refusal.TheVariants.{Usage, Unread, Refused, Table, NotDerived, Memory}
 use Rattle.stars_core.specs.CommandLine.{Request}
@@ -12,12 +13,12 @@ use Rattle.stars_core.specs.Shelves.{Fetched, NotFetched, NotTaken, Taken}
 
 module _ (P : List ℕ → List ℕ → Type 0) (before now : ShelfState) (request : Request) where
   -- a file that isn't fetched isn't taken
-  pub unfetched : ((bytes line : List ℕ) → 1048576 < length bytes → line ≡ too_long_line request.0 → P bytes line)
+  pub unfetched : ((bytes line : List ℕ) → most_text_bytes < length bytes → line ≡ too_long_line request.0 → P bytes line)
       → (refusal : Refusal) → NotFetched before now request refusal → NotTaken P before now request refusal
   unfetched long Usage not = not
   unfetched long (Unread line) not = not
   unfetched long (Refused kind line) not =
-      let content = long_content before.held request.1 1048576 not.3 in (
+      let content = long_content before.held request.1 most_text_bytes not.3 in (
         not.1,
         record {
           bytes = content.0;
