@@ -1,5 +1,5 @@
 -- Each text has a verdict, and texts that are accepted say something.
-use Rattle.std.proofs.Common.{◌≡◌, ◌⊎◌, inl, inr, ◌<◌, ◌≤◌, ℕ, List, [], ◌∷◌, length, Option, Some, None, refl, sym, subst, arith}
+use Rattle.std.proofs.Common.{◌≡◌, ◌⊎◌, inl, inr, ◌<◌, ◌≤◌, ℕ, List, [], ◌∷◌, length, Option, Some, refl, sym, subst}
 use Rattle.std.proofs.lemmas.Bool.{cases_lt}
 use Rattle.sb_outside.specs.Shelf.{Files}
 use Rattle.sb_text.specs.Limits.{most_text_bytes}
@@ -36,7 +36,7 @@ use Rattle.stars_core.specs.Faults.{Stops, Passes, Verdict, Accepted, Stopped, J
 use Rattle.stars_core.specs.Given.{Given, Over, catalogue_in}
 use Rattle.stars_core.specs.Judging.{RulesPass, CataloguePasses, QueryPasses, DerivationPasses, StopsAlways, StopsOver}
 use Rattle.stars_core.specs.Lines.{too_long_line, rules_line, catalogue_line, query_line, derivation_line}
-use Rattle.stars_core.specs.Saying.{Saying, Says, SaysRules, SaysCase, three, four}
+use Rattle.stars_core.specs.Saying.{Saying, Says, SaysCase, three, four}
 use Rattle.stars_core.specs.Shelves.{HeldAs}
 use Rattle.stars_core.proofs.FaultLaws.{passes, long_stops, misread_stops, rejected_stops, not_misread_rules, rules_pass, catalogue_passes, query_passes, derivation_passes, stopped_passes}
 use Rattle.stars_core.proofs.Says.{says_rules, says_case}
