@@ -1,5 +1,6 @@
 -- The laws that other crates may cite. Each is the clause of a function of the module `theorems`.
 pub use Rattle.catalogue.proofs.OneFault.{one_fault}
+pub use Rattle.catalogue.proofs.Verdicts.{verdict}
 pub use Rattle.catalogue.proofs.FaultOrder.{no_fault}
 pub use Rattle.catalogue.proofs.MeaningLaws.{meant}
 pub use Rattle.catalogue.proofs.Formed.{formed}

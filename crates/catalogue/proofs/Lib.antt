@@ -25,3 +25,4 @@ mod CatalogueCanonical
 mod CatalogueLaws
 mod CatalogueWriting
 mod SmallestText
+mod Verdicts

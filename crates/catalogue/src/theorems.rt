@@ -20,6 +20,12 @@ pub fn one_fault()
     ensures { (text : List ℕ) (f g : CatFault) → IsFirstFault text f → IsFirstFault text g → f ≡ g }
 {}
 
+/// Each text has a verdict: it is accepted, or has a first fault.
+pub fn some_verdict()
+    ensures { (text : List ℕ) → ((catalogue : Catalogue) × IsAccepted text catalogue)
+        ⊎ ((fault : CatFault) × IsFirstFault text fault) }
+{}
+
 /// A text whose tokens and statements have no fault has none. Statements that name only what is
 /// defined, and define nothing twice, mean a catalogue. What statements mean that define nothing
 /// twice and keep the limits is well formed.

@@ -24,3 +24,4 @@ mod GoodQuery
 mod Clear
 mod QueryLaws
 mod SmallestText
+mod Verdicts

@@ -63,6 +63,27 @@ pub first_is_strange : (text : List ℕ) (tokens : List Token) (part : Part) (la
 first_is_strange text tokens part later are is none =
     inr (rw (statements_are text tokens (part ∷ later) are is) (inr (not_understood (part_said text part) none)))
 
+pub second_strange : (text : List ℕ) (tokens : List Token) (part next : Part) (later : List Part) (q : QueryStatement)
+    → AreTokens text tokens → parts tokens ≡ part ∷ next ∷ later → statement_at (part_said text part) ≡ Some q → IsStrangeQueryAt text 2
+second_strange text tokens part next later q are is read =
+    let spells = read_spells (part_said text part) q read in
+    inr (rw (statements_are text tokens (part ∷ next ∷ later) are is, spells.0) (
+      (λ strange. elim strange [ inl before ↦ before | inr not ↦ not (understood q spells.1) ]),
+      inl tt,
+    ))
+
+pub one_said : (text : List ℕ) (tokens : List Token) (part : Part) (q : QueryStatement)
+    → AreTokens text tokens → parts tokens ≡ part ∷ [] → statement_at (part_said text part) ≡ Some q → Says text q
+one_said text tokens part q are is read =
+    let spells = read_spells (part_said text part) q read in
+    record {
+      are = record {
+        all_tokens = ap (λ (l : Lexed). l.1) are.lexed;
+        are = statements_are text tokens (part ∷ []) are is ∙ ap (λ s. s ∷ []) spells.0;
+      };
+      stands = spells.1;
+    }
+
 -- whether a statement stands next
 abbrev Next : List Part → Option Statement → List Part → Type 0
 Next left next later = MatchOption next ((left ≡ []) × (later ≡ [])) (λ s. left ≡ part_of s ∷ later)
@@ -71,26 +92,13 @@ pub second_is_strange : (text : List ℕ) (tokens : List Token) (part : Part) (l
     → AreTokens text tokens → parts tokens ≡ part ∷ left → Next left next later → true ≡ is_some next
     → statement_at (part_said text part) ≡ Some q → IsStrangeQueryAt text 2
 second_is_strange text tokens part left None later q are is second some read = absurd cc
-second_is_strange text tokens part left (Some s) later q are is second some read =
-    let spells = read_spells (part_said text part) q read in
-    inr (rw (statements_are text tokens (part ∷ part_of s ∷ later) are (is ∙ ap (λ l. part ∷ l) second), spells.0) (
-      (λ strange. elim strange [ inl before ↦ before | inr not ↦ not (understood q spells.1) ]),
-      inl tt,
-    ))
+second_is_strange text tokens part left (Some s) later q are is second some read = second_strange text tokens part (part_of s) later q are (is ∙ ap (λ l. part ∷ l) second) read
 
 pub only_statement : (text : List ℕ) (tokens : List Token) (part : Part) (left : List Part) (next : Option Statement) (later : List Part) (q : QueryStatement)
     → AreTokens text tokens → parts tokens ≡ part ∷ left → Next left next later → false ≡ is_some next
     → statement_at (part_said text part) ≡ Some q → Says text q
 only_statement text tokens part left (Some s) later q are is second none read = absurd cc
-only_statement text tokens part left None later q are is second none read =
-    let spells = read_spells (part_said text part) q read in
-    record {
-      are = record {
-        all_tokens = ap (λ (l : Lexed). l.1) are.lexed;
-        are = statements_are text tokens (part ∷ []) are (is ∙ ap (λ l. part ∷ l) second.0) ∙ ap (λ s. s ∷ []) spells.0;
-      };
-      stands = spells.1;
-    }
+only_statement text tokens part left None later q are is second none read = one_said text tokens part q are (is ∙ ap (λ l. part ∷ l) second.0) read
 
 -- ---- at most one verdict
 

@@ -1,6 +1,6 @@
 // The laws of the definitions, each the clause of a function that does nothing.
 
-ghost use Rattle.std.specs.Prelude.{◌≡◌, ℕ, List, None, Some, [], ◌∷◌};
+ghost use Rattle.std.specs.Prelude.{◌≡◌, ◌⊎◌, ℕ, List, None, Some, [], ◌∷◌};
 ghost use Rattle.sb_text.specs.Refusal.{fault_of};
 ghost use Rattle.star_model.specs.Selectivity.{weighed};
 ghost use Rattle.star_model.specs.WellFormed.{WellFormedCatalogue, WellFormedQuery};
@@ -19,6 +19,13 @@ ghost use Rattle.star_model.specs.declared.catalogue.ColumnDef.{ColumnDef};
 pub fn one_fault()
     ensures { (catalogue : Catalogue) (text : List ℕ) (f g : QueryFault)
         → IsFirstFault catalogue text f → IsFirstFault catalogue text g → f ≡ g }
+{}
+
+/// Over a well-formed catalogue each text has a verdict: it is accepted, or has a first fault.
+pub fn some_verdict()
+    ensures { (catalogue : Catalogue) (text : List ℕ) → WellFormedCatalogue catalogue
+        → ((query : Query) × IsAccepted catalogue text query)
+        ⊎ ((fault : QueryFault) × IsFirstFault catalogue text fault) }
 {}
 
 /// A text is accepted whose tokens and names have no fault, and which means a well-formed query

@@ -187,7 +187,19 @@ no_fault source statements none says within fault has = clear source statements 
 
 -- ---- verdicts
 
-syntax_first : (source : List ℕ) (k : ℕ) → fault_of source ≡ None → IsStrangeAt source k → IsFirstFault source (Syntax k)
+from_deep : (source : List ℕ) (k : ℕ) (fault : RuleFault) → fault_of source ≡ Some (text.TooDeep k) → Found source fault → 1 ≤ fault_rank fault
+from_deep source k fault is (lexical {offset} p) = let e : Some (text.TooDeep k) ≡ Some (text.Lexical offset) = sym is ∙ p in absurd cc
+from_deep source k fault is (too_deep p) = omega arith
+from_deep source k fault is (syntax_ p) = omega arith
+from_deep source k fault is (limit_ statements says p) = omega arith
+
+pub lexical_first : (source : List ℕ) (offset : ℕ) → fault_of source ≡ Some (text.Lexical offset) → IsFirstFault source (Lexical offset)
+lexical_first source offset is = record { has = is; first = λ other has. omega arith }
+
+pub deep_first : (source : List ℕ) (k : ℕ) → fault_of source ≡ Some (text.TooDeep k) → IsFirstFault source (TooDeep k)
+deep_first source k is = record { has = is; first = λ other has. from_deep source k other is (found source other has) }
+
+pub syntax_first : (source : List ℕ) (k : ℕ) → fault_of source ≡ None → IsStrangeAt source k → IsFirstFault source (Syntax k)
 syntax_first source k none strange = record { has = strange; first = λ other has. from_syntax source other none (found source other has) }
 
 limit_first : (source : List ℕ) (statements : List RuleStatement) (k : ℕ) (what : LimitKind) → fault_of source ≡ None → SaysRules source statements → IsLimitAt statements k what

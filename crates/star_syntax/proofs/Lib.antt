@@ -10,4 +10,6 @@ mod SpelledRules
 mod ReadLaws
 mod WellFormedLaws
 mod FaultLaws
+mod Defining
+mod Verdicts
 pub mod Laws

@@ -104,14 +104,14 @@ pub rejected_stops : (earlier : List Given) (this : Given) (line : List ℕ) →
     → ((other : List ℕ) → IsMisread earlier this other → ⊥) → IsRejected this line → Stops earlier this line
 rejected_stops earlier this line size read rejected = inr (not_long earlier this size, inr (read, inl rejected))
 
-passes : (earlier : List Given) (this : Given) → length this.1 ≤ most_text_bytes → ((other : List ℕ) → IsMisread earlier this other → ⊥)
+pub passes : (earlier : List Given) (this : Given) → length this.1 ≤ most_text_bytes → ((other : List ℕ) → IsMisread earlier this other → ⊥)
     → ((other : List ℕ) → IsRejected this other → ⊥) → Passes earlier this
 passes earlier this size read fine = (not_long earlier this size, (read, (fine, tt)))
 
 -- ---- texts that are accepted
 
 module _ (r : List ℕ) (rules : RuleFile) (reads : rule_files.ReadsRules r (Ok rules)) where
-  not_misread_rules : (earlier : List Given) (other : List ℕ) → IsMisread earlier (Rules, r) other → ⊥
+  pub not_misread_rules : (earlier : List Given) (other : List ℕ) → IsMisread earlier (Rules, r) other → ⊥
   not_misread_rules earlier other p = reads.clear p.0 p.1.has
 
   not_rejected : IsAccepted rules → (other : List ℕ) → IsRejected (Rules, r) other → ⊥

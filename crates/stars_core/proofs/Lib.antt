@@ -16,4 +16,5 @@ pub mod Says
 pub mod Cases
 pub mod OneFile
 mod DoneSays
+mod Verdicts
 pub mod Laws

@@ -33,6 +33,8 @@ pub use refusal::{Refusal, TextKind};
 pub use rules_text::print_checked;
 pub use status::{Ending, Status};
 pub use texts::{check_text, frontier_texts, plan_texts, verify_texts};
-pub use theorems::{done_says, one_reading, one_verdict, texts_without_fault_say};
+pub use theorems::{
+    accepted_texts_say, done_says, one_reading, one_verdict, texts_without_fault_say,
+};
 pub use top::stars;
 pub use verify::verify_query;

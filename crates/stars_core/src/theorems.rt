@@ -1,24 +1,34 @@
 // Laws of the definitions.
-ghost use Rattle.std.specs.Prelude.{◌≡◌, ℕ, List, []};
-ghost use Rattle.sb_outside.specs.Shelf.{ShelfState};
+ghost use Rattle.std.specs.Prelude.{◌≡◌, ℕ, List, [], Option};
+ghost use Rattle.sb_outside.specs.Shelf.{Files, ShelfState};
 ghost use Rattle.sb_outside.specs.Sink.{SinkState};
 ghost use Rattle.star_model.specs.Selectivity.{selects_of, weighed};
 ghost use Rattle.star_model.specs.declared.catalogue.Catalogue.{Catalogue as CatalogueTree};
 ghost use Rattle.star_model.specs.declared.query.Query.{Query as QueryTree};
 ghost use Rattle.star_model.specs.declared.rules.RuleFile.{RuleFile};
-ghost use Rattle.stars_core.specs.CommandLine.{CommandLine};
+ghost use Rattle.stars_core.specs.CommandLine.{CommandLine, requests_of};
 ghost use Rattle.stars_core.specs.Given.{Given};
 ghost use Rattle.stars_core.specs.Faults.{Verdict, Judged, PassAll};
 ghost use Rattle.stars_core.specs.Judging.{RulesPass, CataloguePasses, QueryPasses};
 ghost use Rattle.stars_core.specs.Saying.{Saying, Says, SaysCase, three};
+ghost use Rattle.stars_core.specs.Shelves.{HeldAs};
 ghost use Rattle.stars_core.specs.Answers.{Answered, DoneSays};
 
 use crate::{Command, Status};
 
-/// One text has at most one verdict.
+/// One text has exactly one verdict, whatever texts stand before it.
 pub fn one_verdict()
-    ensures { (earlier : List Given) (this : Given) (a b : Verdict) → Judged earlier this a
+    ensures one { (earlier : List Given) (this : Given) (a b : Verdict) → Judged earlier this a
         → Judged earlier this b → a ≡ b }
+    ensures some { (earlier : List Given) (this : Given) → (verdict : Verdict)
+        × Judged earlier this verdict }
+{}
+
+/// Texts that a command asks for say something to it where they are accepted.
+pub fn accepted_texts_say()
+    ensures { (told : Option Files) (command : Command) (words : CommandLine) (given : List Given)
+        → HeldAs told (requests_of command words) given → PassAll [] given
+        → (saying : Saying command) × Says command given saying }
 {}
 
 /// Texts say at most one thing to a command.
