@@ -74,7 +74,7 @@ returns-in-Ok-emit-clause-shelf g c = shelf_kept (bytes_of c.args.words.now) (co
 pub returns-in-Ok-clause-answer : goal.returns-in-Ok-clause-answer
 returns-in-Ok-clause-answer g c =
     part_at (bytes_of c.args.words.now) (command_of (bytes_of c.args.words.now)) _ _ _ _ _ _ c.in-Ok.pieces refl c.in-Ok.ensures
-    c.in-Err-emit.ensures.puts c.in-Err-emit.ensures.part c.in-Err-emit.ensures.failed c.tell.ensures.told
+    c.in-Err-Failed.ensures.puts c.in-Err-Failed.ensures.part c.in-Err-Failed.ensures.failed c.tell.ensures.told
 
 pub returns-in-Ok-clause-complete : goal.returns-in-Ok-clause-complete
 returns-in-Ok-clause-complete g c =
