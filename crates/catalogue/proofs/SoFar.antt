@@ -52,7 +52,7 @@ few_columns earlier (Site s) fine = tt
 few_columns earlier (Table t) fine = ltb-false 32 (length t.columns) (false_from_ne_true (nat_lt 32 (length t.columns)) (λ wide. fine (limit.Columns, ltb-true 32 (length t.columns) wide)))
 few_columns earlier (Index i) fine = ltb-false 8 (length i.columns) (false_from_ne_true (nat_lt 8 (length i.columns)) (λ wide. fine (limit.IndexColumns, ltb-true 8 (length i.columns) wide)))
 
-every_with : {A : Type 0} (P : A → Type 0) (xs : List A) (x : A) → Every P xs → P x → Every P (xs ++ x ∷ [])
+pub every_with : {A : Type 0} (P : A → Type 0) (xs : List A) (x : A) → Every P xs → P x → Every P (xs ++ x ∷ [])
 every_with P [] x all p = (p, tt)
 every_with P (y ∷ xs) x all p = (all.0, every_with P xs x all.1 p)
 

@@ -28,6 +28,7 @@ use Rattle.catalogue.specs.LimitTests.{limit_beyond}
 use Rattle.catalogue.specs.declared.limits.Counts.{Counts}
 use Rattle.catalogue.specs.Faults.{SaysStatements, IsLimitAt, IsFirstFault, IsAccepted}
 use Rattle.catalogue.proofs.Understood.{all_read, not_ended, error_told, more_left, strange_at}
+use Rattle.catalogue.proofs.SoFar.{every_with}
 use Rattle.catalogue.proofs.LimitLaws.{Finds, limit_found}
 use Rattle.catalogue.proofs.MeaningLaws.{meant}
 use Rattle.catalogue.proofs.Formed.{formed}
@@ -48,10 +49,6 @@ reading (lexemes, true) = at (statement_at lexemes) refl
     at (Some (words, lexeme ∷ rest)) is = inr (more_left (lexemes, true) (lexeme ∷ rest) words is (λ none. cc))
 
 -- ---- all statements of a text are understood, or one is the first that isn't
-
-every_more : {A : Type 0} (P : A → Type 0) (xs : List A) (x : A) → Every P xs → P x → Every P (xs ++ x ∷ [])
-every_more P [] x every has = (has, tt)
-every_more P (y ∷ xs) x every has = (every.0, every_more P xs x every.1 has)
 
 abbrev lexemes_for : List StatementWords → List MaybeEnded
 lexemes_for list = map ended (map catalogue_lexemes (map said list))
@@ -81,7 +78,7 @@ module _ (text : List ℕ) (all_tokens : (lexed text).1 ≡ None) where
           (are ∙ ap (λ s. lexemes_for list ++ s ∷ map (part_said text) later) is.0
           ∙ sym (append_assoc (lexemes_for list) (ended (catalogue_lexemes (said words)) ∷ []) (map (part_said text) later))
           ∙ ap (λ l. l ++ map (part_said text) later) (sym (one_more list words)))
-          (subst (Every HasColumns) (sym (said_more list words)) (every_more HasColumns (map said list) (said words) columns is.1))
+          (subst (Every HasColumns) (sym (said_more list words)) (every_with HasColumns (map said list) (said words) columns is.1))
       at (inr strange) on =
           inr ((length list + 1, strange_at text list this (this ∷ later) later (length list + 1) are refl columns refl strange))
 

@@ -16,7 +16,7 @@ use Rattle.stars_core.specs.declared.status.Status.TheVariants.{Done, NoPlan, Us
 use Rattle.stars_core.specs.CommandLine.{CommandLine, command_of, requests_of}
 use Rattle.stars_core.specs.Bounds.{most_puts, puts_of}
 use Rattle.stars_core.specs.Given.{Given}
-use Rattle.stars_core.specs.Plan.{HasPlan, HasNoPlan}
+use Rattle.stars_core.specs.Plan.{HasNoPlan}
 use Rattle.stars_core.specs.Saying.{Saying}
 use Rattle.stars_core.specs.Pieces.{HasPieces}
 use Rattle.stars_core.specs.Running.{SaysOf, FewCalls}

@@ -1,6 +1,6 @@
 -- A run behind its three texts.
-use Rattle.std.proofs.Common.{◌≡◌, ◌≤◌, ◌+◌, ◌⊎◌, ℕ, List, [], ◌∷◌, length, Option, Some, Result, Ok, Err, refl, subst, inl, inr, arith, string_bytes}
-use Rattle.sb_outside.specs.Shelf.{Files, ShelfState, GoesBy, NoFault}
+use Rattle.std.proofs.Common.{◌≡◌, ◌≤◌, ◌+◌, ◌⊎◌, ℕ, List, [], ◌∷◌, length, Option, Some, Result, Ok, Err, refl, subst, inl, inr, arith}
+use Rattle.sb_outside.specs.Shelf.{Files, ShelfState, GoesBy}
 use Rattle.sb_outside.proofs.Laws.{no_call, goes_on, no_fault_on}
 use Rattle.star_model.specs.Answers.{Data}
 use Rattle.star_model.specs.WellFormed.{WellFormedQuery}

@@ -1,6 +1,5 @@
 -- The first table of a run that doesn't hold rows is refused.
 use Rattle.std.proofs.Common.{◌≡◌, ℕ, List, Option, None, Some, refl, sym, ◌∙◌, subst, inl, inr}
-use Rattle.sb_outside.specs.Counts.{Rose}
 use Rattle.sb_outside.specs.Shelf.{Files, ShelfState}
 use Rattle.sb_outside.specs.Sink.{SinkState}
 use Rattle.star_model.specs.declared.query.Query.{Query as QueryTree}

@@ -1,5 +1,5 @@
 -- What a run comes to where the shelf tells what it holds.
-use Rattle.std.specs.Prelude.{◌≡◌, ◌≤◌, ◌+◌, ◌⊎◌, ℕ, List, [], length, take, slice_get, Option, Some}
+use Rattle.std.specs.Prelude.{◌≡◌, ◌≤◌, ◌+◌, ◌⊎◌, ℕ, List, [], length, take, slice_get, Some}
 use Rattle.sb_outside.specs.Counts.{Rose, RoseAtMost}
 use Rattle.sb_outside.specs.Shelf.{Files, ShelfState}
 use Rattle.sb_outside.specs.Sink.{SinkState}
