@@ -1,6 +1,7 @@
 -- The files of a run of which the clauses speak: its table holds no row.
-use Rattle.std.proofs.Common.{◌≡◌, inl, inr, ℕ, List, [], ◌∷◌, ◌++◌, if◌then◌else◌, None, Some, refl, arith, codes}
+use Rattle.std.proofs.Common.{◌≡◌, ℕ, List, [], ◌∷◌, ◌++◌, if◌then◌else◌, None, Some, refl, sym, arith, codes}
 use Rattle.std.specs.Prelude.{Contains}
+use Prim.Native.Nat.{zero, suc}
 use Rattle.std.specs.Str.{bytes_eq}
 use Rattle.csv.specs.Machine.{next_record}
 use Rattle.csv.specs.Reading.{records_from, strip_bom}
@@ -35,8 +36,8 @@ asked = weighed (selects_of tiny_rules) query
 
 only_table : (n : ℕ) → Contains (tables_of asked) n → n ≡ 0
 unfolding weighed
-only_table n (inl is) = cc
-only_table n (inr more) = absurd more
+only_table n (zero, within, is) = sym is
+only_table n (suc k, within, is) = absurd (omega (arith, within))
 
 no_rows : table_rows catalogue 0 (records_of table_text) ≡ Some []
 unfolding next_record records_from strip_bom
