@@ -2,19 +2,22 @@
 ghost use Rattle.star_model.specs.WellFormed.{WellFormedQuery};
 
 use crate::asked::told_closed;
+use crate::batches::told_batches;
 use crate::expanded::{told_again, told_goals, told_moved};
 use crate::kept::told_kept;
 use crate::sets::{told_glue, told_offers, told_unshared};
+use sb_outside::MemoryShelf;
 use star_check::CheckedRules;
 use star_model::query::Query;
 use std::alloc::{AllocError, Global};
 
-/// What came of the call with this name for the query's goal.
+/// What came of the call with this name for the query's goal, or over its tables.
 pub fn told(
     alloc: Global,
     call: &str,
     rules: &CheckedRules,
     query: &Query,
+    shelf: &mut MemoryShelf,
 ) -> Result<String, AllocError>
     requires { WellFormedQuery query.now }
 {
@@ -34,6 +37,8 @@ pub fn told(
         told_glue(alloc, rules, query)
     } else if call == "offer" {
         told_offers(alloc, rules, query)
+    } else if call == "batches" {
+        told_batches(alloc, rules, query, shelf)
     } else {
         String::from_str(alloc, "no such call")
     }

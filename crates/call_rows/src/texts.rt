@@ -1,4 +1,4 @@
-// What a call answers of three texts.
+// What a call answers of three texts, and of the files of the query's tables.
 ghost use Rattle.std.specs.Prelude.{◌≤◌, length};
 ghost use Rattle.star_model.specs.WellFormedRules.{WellFormedRules};
 ghost use Rattle.star_model.specs.WellFormed.{WellFormedCatalogue};
@@ -6,6 +6,7 @@ ghost use Rattle.star_model.specs.WellFormed.{WellFormedCatalogue};
 use crate::calls::told;
 use catalogue::read_catalogue;
 use query_graph::read_query;
+use sb_outside::MemoryShelf;
 use star_check::{CheckedRules, check_rules};
 use star_model::catalogue::Catalogue;
 use star_model::rules::RuleFile;
@@ -41,12 +42,13 @@ fn answer_over(
     rules: &CheckedRules,
     catalogue: &Catalogue,
     query: &[u8],
+    shelf: &mut MemoryShelf,
 ) -> Result<String, AllocError>
     requires catalogue { WellFormedCatalogue catalogue.now }
     requires query { length query.now ≤ 1048576 }
 {
     match read_query(alloc, catalogue, query) {
-        Ok(query) => told(alloc, call, rules, &query),
+        Ok(query) => told(alloc, call, rules, &query, shelf),
         Err(_) => Err(AllocError),
     }
 }
@@ -58,6 +60,7 @@ pub fn answer(
     rules: &[u8],
     catalogue: &[u8],
     query: &[u8],
+    shelf: &mut MemoryShelf,
 ) -> Result<String, AllocError> {
     if rules.len() > LONGEST || catalogue.len() > LONGEST || query.len() > LONGEST {
         return Err(AllocError);
@@ -66,7 +69,7 @@ pub fn answer(
         return Err(AllocError);
     };
     match read_catalogue(alloc, catalogue) {
-        Ok(catalogue) => answer_over(alloc, call, &rules, &catalogue, query),
+        Ok(catalogue) => answer_over(alloc, call, &rules, &catalogue, query, shelf),
         Err(_) => Err(AllocError),
     }
 }
