@@ -1,0 +1,26 @@
+// The laws of the definitions, each the clause of a function that does nothing.
+
+ghost use Rattle.std.specs.Prelude.{◌≡◌, ℕ, slice_get, Some};
+ghost use Rattle.sb_outside.specs.Records.{Records};
+ghost use Rattle.workload_gen.specs.Tables.{drawn_tables};
+ghost use Rattle.workload_gen.specs.Trees.{catalogue_tree, query_tree};
+ghost use Rattle.workload_gen.specs.Workloads.{IsSize, workload};
+ghost use Rattle.workload_runs.specs.AcceptedTexts.{IsShort};
+ghost use Rattle.workload_runs.specs.Cases.{Says};
+ghost use Rattle.workload_runs.specs.HeldRows.{HaveRows};
+ghost use Rattle.workload_runs.specs.RulesTree.{generator_rules};
+
+/// The texts of each workload say rules and a query, and are short enough to be read.
+pub fn workloads_are_accepted()
+    ensures says { (seed size : ℕ) → IsSize size → Says (workload seed size) generator_rules
+        (query_tree (drawn_tables seed size)) }
+    ensures rules { (seed size : ℕ) → IsSize size → IsShort (workload seed size).rules }
+    ensures catalogue { (seed size : ℕ) → IsSize size → IsShort (workload seed size).catalogue }
+    ensures query { (seed size : ℕ) → IsSize size → IsShort (workload seed size).query }
+{}
+
+/// The records of each table of a workload hold rows.
+pub fn records_hold_rows()
+    ensures { (seed size : ℕ) → IsSize size
+        → HaveRows (catalogue_tree (drawn_tables seed size)) (workload seed size).tables }
+{}
