@@ -7,7 +7,7 @@ use Rattle.std.proofs.lemmas.Bool.{and_parts}
 use Rattle.star_model.specs.Vectors.{same_numbers}
 use Rattle.star_model.specs.Costs.{formula_of}
 use Rattle.star_model.specs.Monotone.{first_offending, is_free, nodes, offends}
-use Rattle.star_model.specs.Kinds.{kind_of}
+use Rattle.star_model.specs.Kinds.{kind_of, is_kinded}
 use Rattle.star_model.specs.Accepted.{IsAccepted, Never, OfStarTest, OfFormula, Twice, Reaches, directly, further, HasGlueInAccess, is_access_root, occurs, is_unknown, is_star_twice, is_formula_twice, is_select_twice, has_wrong_arity, has_wrong_kind, bodies_of, height_of, weight_of, values_in, references_in, operators_in, glues_in, values_of_condition, variables_in, height_within, weight_within, references_of, lacks_root, lacks_formula}
 use Rattle.star_model.specs.declared.rules.StarDef.{StarDef}
 use Rattle.star_model.specs.declared.rules.FormulaDef.{FormulaDef}
@@ -137,7 +137,7 @@ no_glue s in_ (inl root, glue) = none_contained (λ t. is_access_root generator_
 no_glue s in_ (inr reached, glue) = from_no_access s.name reached
 
 pub rules_accepted : IsAccepted generator_rules
-unfolding formulas access_root join_root both is_free nodes offends kind_of values_in references_in operators_in glues_in values_of_condition variables_in height_within weight_within
+unfolding formulas access_root join_root both is_free nodes offends kind_of is_kinded values_in references_in operators_in glues_in values_of_condition variables_in height_within weight_within
 rules_accepted = record {
   known = no_star (is_unknown generator_rules) refl;
   once = once;
