@@ -1,0 +1,116 @@
+-- Reading the texts of a workload fails only where memory is wanting.
+use Rattle.std.proofs.Common.{◌≡◌, ℕ, List, [], Ok, Err, Result, refl, ap, sym, ◌∙◌, subst}
+use Rattle.star_model.specs.Accepted.{IsAccepted, IsRefusedBy}
+use Rattle.star_model.specs.Selectivity.{selects_of, weighed}
+use Rattle.star_model.specs.WellFormed.{WellFormedQuery}
+use Rattle.star_model.specs.declared.catalogue.Catalogue.{Catalogue}
+use Rattle.star_model.specs.declared.faults.RuleFault.{RuleFault}
+use Rattle.star_model.specs.declared.faults.RuleFault.TheVariants as rule_fault
+use Rattle.star_model.specs.declared.query.Query.{Query}
+use Rattle.star_model.specs.declared.rules.RuleFile.{RuleFile}
+use Rattle.rule_grammar.proofs.Laws.{one_rule_file}
+use Rattle.star_syntax.specs.Faults as of_rules
+use Rattle.star_check.specs.Checking.{Checks}
+use Rattle.star_check.proofs.Laws.{accepted_or_refused}
+use Rattle.catalogue.specs.Catalogues.{SpellsCatalogue}
+use Rattle.catalogue.specs.Faults as of_catalogue
+use Rattle.catalogue.proofs.Laws.{one_catalogue}
+use Rattle.catalogue.specs.declared.fault.CatFault.{CatFault}
+use Rattle.catalogue.specs.declared.fault.CatFault.TheVariants as catalogue_fault
+use Rattle.query_graph.specs.Faults as of_query
+use Rattle.query_graph.specs.declared.fault.QueryFault.{QueryFault}
+use Rattle.query_graph.specs.declared.fault.QueryFault.TheVariants as query_fault
+use Rattle.query_graph.specs.Queries.{SpellsQuery}
+use Rattle.query_graph.proofs.Laws.{usual_selectivities, keeps_catalogue, one_query}
+use Rattle.workload_gen.specs.CatalogueText.{catalogue_text}
+use Rattle.workload_gen.specs.QueryText.{query_text}
+use Rattle.workload_gen.specs.RulesText.{rules_text}
+use Rattle.workload_gen.specs.Tables.{drawn_tables}
+use Rattle.workload_gen.specs.Trees.{catalogue_tree, query_tree}
+use Rattle.workload_gen.specs.Workloads.{IsSize, workload}
+use Rattle.workload_gen.specs.declared.workload.Workload.{Workload}
+use Rattle.workload_gen.proofs.Laws.{accepts_catalogue, accepts_query}
+use Rattle.workload_runs.specs.AcceptedTexts.{IsCatalogueText, IsQueryText}
+use Rattle.workload_runs.specs.Cases.{Says}
+use Rattle.workload_runs.specs.Made.{IsMade}
+use Rattle.workload_runs.specs.RulesTree.{generator_rules}
+use Rattle.workload_runs.proofs.RulesAccepted.{rules_accepted}
+use Rattle.workload_runs.proofs.RulesSpelled.{spells_rules}
+use Rattle.workload_runs.proofs.RulesWithin.{no_rules_fault, formed_rules, fitting_rules}
+use Rattle.workload_runs.proofs.TextLengths.{short_catalogue, short_query}
+
+-- ---- faults that don't come
+
+pub rules_read : (fault : RuleFault) → of_rules.ReadsRules rules_text (Err fault) → fault ≡ rule_fault.Memory
+rules_read rule_fault.Memory read = refl
+rules_read _ read = absurd (no_rules_fault _ read.has)
+
+pub rules_checked : (fault : RuleFault) → Checks generator_rules (Err fault) → fault ≡ rule_fault.Memory
+rules_checked rule_fault.Memory checks = refl
+rules_checked _ checks = absurd (accepted_or_refused generator_rules _ rules_accepted checks)
+
+pub catalogue_read : (text : List ℕ) → IsCatalogueText text → (fault : CatFault) → of_catalogue.ReadsCatalogue text (Err fault) → fault ≡ catalogue_fault.Memory
+catalogue_read text is catalogue_fault.Memory read = refl
+catalogue_read text is _ read = absurd (is.accepted.clear _ read.has)
+
+pub query_read : (c : Catalogue) (text : List ℕ) → IsQueryText c text → (fault : QueryFault) → of_query.ReadsQuery c text (Err fault) → fault ≡ query_fault.Memory
+query_read c text is query_fault.Memory read = refl
+query_read c text is _ read = absurd (is.accepted.clear _ read.has)
+
+-- ---- what the texts say
+
+pub catalogue_given : (seed size : ℕ) → IsSize size → IsCatalogueText (workload seed size).catalogue
+catalogue_given seed size is = record { short = short_catalogue seed size is; catalogue = catalogue_tree (drawn_tables seed size); accepted = accepts_catalogue seed size is }
+
+one_tree : (seed size : ℕ) → IsSize size → (c : Catalogue) → SpellsCatalogue (workload seed size).catalogue c → c ≡ catalogue_tree (drawn_tables seed size)
+one_tree seed size is c spells = one_catalogue (workload seed size).catalogue c (catalogue_tree (drawn_tables seed size)) spells (accepts_catalogue seed size is).spells
+
+pub query_given : (seed size : ℕ) → IsSize size → (c : Catalogue) → of_catalogue.IsAccepted (workload seed size).catalogue c → IsQueryText c (workload seed size).query
+query_given seed size is c accepted =
+    let tree : IsQueryText (catalogue_tree (drawn_tables seed size)) (workload seed size).query =
+    record { short = short_query size is.1; query = query_tree (drawn_tables seed size); accepted = accepts_query seed size is } in
+    subst (λ d. IsQueryText d (workload seed size).query) (sym (one_tree seed size is c accepted.spells)) tree
+
+pub workload_says : (seed size : ℕ) → IsSize size → Says (workload seed size) generator_rules (query_tree (drawn_tables seed size))
+workload_says seed size is =
+    let tables = drawn_tables seed size in
+    let spells = (accepts_query seed size is).spells in
+    let over : (query_tree tables).catalogue ≡ catalogue_tree tables = keeps_catalogue (catalogue_tree tables) (query_text size) (query_tree tables) spells in
+    record {
+      of_rules = spells_rules;
+      formed_rules = formed_rules;
+      fits = fitting_rules;
+      accepted = rules_accepted;
+      spelled = query_tree tables;
+      of_catalogue = subst (SpellsCatalogue (catalogue_text tables)) (sym over) (accepts_catalogue seed size is).spells;
+      of_query = subst (λ c. SpellsQuery c (query_text size) (query_tree tables)) (sym over) spells;
+      by_rules = sym (usual_selectivities (catalogue_tree tables) (query_text size) (query_tree tables) spells);
+      formed = (accepts_query seed size is).formed;
+    }
+
+module _ (made : Workload) (is : IsMade made) where
+  -- what is read says what the texts say
+  pub case_says : (rules : RuleFile) (c : Catalogue) (q asked : Query) → rules ≡ generator_rules → of_catalogue.IsAccepted made.catalogue c
+      → of_query.IsAccepted c made.query q → asked ≡ weighed (selects_of rules) q → Says made rules asked
+  case_says rules c q asked same_rules of_c of_q by_rules =
+      let tables = drawn_tables is.seed is.size in
+      let here : Workload = workload is.seed is.size in
+      let c_here : of_catalogue.IsAccepted here.catalogue c = subst (λ (w : Workload). of_catalogue.IsAccepted w.catalogue c) is.are of_c in
+      let q_here : of_query.IsAccepted c here.query q = subst (λ (w : Workload). of_query.IsAccepted c w.query q) is.are of_q in
+      let same_catalogue = one_tree is.seed is.size is.is_size c c_here.spells in
+      let over_tree : SpellsQuery (catalogue_tree tables) here.query q = subst (λ d. SpellsQuery d here.query q) same_catalogue q_here.spells in
+      let tree_spells = (accepts_query is.seed is.size is.is_size).spells in
+      let same_query : q ≡ query_tree tables = one_query (catalogue_tree tables) here.query q (query_tree tables) over_tree tree_spells in
+      let weighs : weighed [] (query_tree tables) ≡ query_tree tables = usual_selectivities (catalogue_tree tables) (query_text is.size) (query_tree tables) tree_spells in
+      let same_asked : asked ≡ query_tree tables = by_rules ∙ (ap (λ (r : RuleFile). weighed (selects_of r) q) same_rules ∙ (ap (weighed []) same_query ∙ weighs)) in
+      let says : Says here rules asked =
+      subst (λ r. Says here r asked) (sym same_rules) (subst (Says here generator_rules) (sym same_asked) (workload_says is.seed is.size is.is_size)) in
+      subst (λ (w : Workload). Says w rules asked) (sym is.are) says
+
+  -- the query is over the catalogue of the workload
+  pub case_catalogue : (rules : RuleFile) (query : Query) → Says made rules query → query.catalogue ≡ catalogue_tree (drawn_tables is.seed is.size)
+  unfolding weighed
+  case_catalogue rules query says =
+      let spells : SpellsCatalogue (workload is.seed is.size).catalogue says.spelled.catalogue =
+      subst (λ (w : Workload). SpellsCatalogue w.catalogue says.spelled.catalogue) is.are says.of_catalogue in
+      ap (λ (q : Query). q.catalogue) says.by_rules ∙ one_tree is.seed is.size is.is_size says.spelled.catalogue spells
