@@ -1,10 +1,11 @@
 -- A memo that holds what a query asks for has one set for each goal, and in these sets as many plans as vectors are on the goals' frontiers.
-use Rattle.std.proofs.Common.{◌≡◌, ℕ, inl, inr, ◌↔◌, Bool, true, false, List, [], ◌∷◌, length, map, Option, Some, None, refl, ap, sym, subst, ◌∙◌, arith}
-use Rattle.std.specs.Prelude.{Contains, IsSome, is_some, flat_map, sum_by, cond, nat_eq, ◌&&◌}
+use Rattle.std.proofs.Common.{◌≡◌, ℕ, zero, suc, ◌+◌, inl, inr, ◌↔◌, Bool, true, false, List, [], ◌∷◌, length, map, Option, Some, None, refl, ap, sym, subst, ◌∙◌, arith}
+use Rattle.std.specs.Prelude.{Contains, IsSome, is_some, slice_get, take, fold, flat_map, sum_by, cond, nat_eq, ◌&&◌}
 use Rattle.std.specs.List.{IsDistinct, find}
 use Rattle.std.specs.Option.{option_map}
 use Rattle.std.proofs.lemmas.Bool.{and_parts, eqb-true, eq-eqb}
 use Rattle.std.proofs.lemmas.List.{length-map}
+use Rattle.std.proofs.lemmas.Option.{slice_get_within, get_or_from_slice_get}
 use Rattle.std.proofs.lemmas.List.Concat.{length-flat_map}
 use Rattle.std.proofs.lemmas.List.Elements.{All-from_recursion, All-contains}
 use Rattle.std.proofs.lemmas.Map.Keys.{IsDistinct-head, IsDistinct-tail}
@@ -90,7 +91,44 @@ in_held memo apart g in_ =
     let pair : Contains memo (g, found.0.1) = subst (λ (h : Goal). Contains memo (h, found.0.1)) found.2 found.1 in
     ap (λ (o : Option (List DerivedPlan)). is_some o) (own_plans memo apart g found.0.1 pair)
 
+-- ---- sets by their places
+
+-- the set of the goal at a place is the one that stands there
+pub own_set : (memo : List GoalSet) → AreApart memo → (place : ℕ) (g : Goal) → option_map (λ (s : GoalSet). s.0) (slice_get memo place) ≡ Some g
+    → (plans : List DerivedPlan) × (plans_at memo g ≡ Some plans) × (slice_get memo place ≡ Some (g, plans))
+own_set memo apart place g at = go (slice_get memo place) refl at where
+  go : (o : Option GoalSet) → slice_get memo place ≡ o → option_map (λ (s : GoalSet). s.0) o ≡ Some g
+      → (plans : List DerivedPlan) × (plans_at memo g ≡ Some plans) × (slice_get memo place ≡ Some (g, plans))
+  go None is e = cc
+  go (Some s) is e =
+      let goal : s.0 ≡ g = cc in
+      let here : slice_get memo place ≡ Some (g, s.1) = is ∙ (λ i. Some (goal i, s.1)) in
+      let in_memo : Contains memo (g, s.1) = (place, slice_get_within memo place (g, s.1) here, get_or_from_slice_get memo place (g, s.1) (g, s.1) here) in
+      (s.1, own_plans memo apart g s.1 in_memo, here)
+
 -- ---- counts
+
+abbrev pub count_of : List GoalSet → ℕ
+count_of memo = sum_by (λ s. length s.1) memo
+
+count_behind : (n : ℕ) (memo : List GoalSet) → fold (λ a s. a + length s.1) n memo ≡ n + count_of memo
+count_behind n [] = omega arith
+count_behind n (s ∷ memo) =
+    let all : fold (λ a s. a + length s.1) n (s ∷ memo) ≡ (n + length s.1) + count_of memo = count_behind (n + length s.1) memo in
+    let own : count_of (s ∷ memo) ≡ (0 + length s.1) + count_of memo = count_behind (0 + length s.1) memo in
+    omega (arith, all, own)
+
+pub one_set_more : (memo : List GoalSet) (place : ℕ) (plans : ℕ) → option_map (λ (s : GoalSet). length s.1) (slice_get memo place) ≡ Some plans
+    → count_of (take (place + 1) memo) ≡ count_of (take place memo) + plans
+one_set_more [] place plans at = cc
+one_set_more (s ∷ memo) zero plans at = let same : length s.1 ≡ plans = cc in ap (λ n. 0 + n) same
+one_set_more (s ∷ memo) (suc place) plans at =
+    let rest = one_set_more memo place plans at in
+    let next : suc place + 1 ≡ suc (place + 1) = omega arith in
+    let all : count_of (take (suc place + 1) (s ∷ memo)) ≡ (0 + length s.1) + count_of (take (place + 1) memo) =
+    ap (λ n. count_of (take n (s ∷ memo))) next ∙ count_behind (0 + length s.1) (take (place + 1) memo) in
+    let before : count_of (take (suc place) (s ∷ memo)) ≡ (0 + length s.1) + count_of (take place memo) = count_behind (0 + length s.1) (take place memo) in
+    omega (arith, rest, all, before)
 
 -- a goal's set, as the goal with each vector
 abbrev kept_of : GoalSet → List (Goal × Props)

@@ -29,8 +29,10 @@ fn load_table(
 {
     match load(alloc, catalogue, number, records) {
         Ok(table) => Ok(table),
-        Err(TableFault::Memory) => Err(AllocError),
-        Err(_) => unreachable!(),
+        Err(fault) => {
+            prove!(matches!(&fault, TableFault::Memory));
+            Err(AllocError)
+        }
     }
 }
 

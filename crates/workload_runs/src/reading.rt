@@ -38,8 +38,10 @@ fn read_rule_file(alloc: Global, text: &[u8]) -> Result<RuleFile, AllocError>
 {
     match read_rules(alloc, text) {
         Ok(rules) => Ok(rules),
-        Err(RuleFault::Memory) => Err(AllocError),
-        Err(_) => unreachable!(),
+        Err(fault) => {
+            prove!(matches!(&fault, RuleFault::Memory));
+            Err(AllocError)
+        }
     }
 }
 
@@ -49,8 +51,10 @@ fn check(alloc: Global, rules: RuleFile) -> Result<CheckedRules, AllocError>
 {
     match check_rules(alloc, rules) {
         Ok(checked) => Ok(checked),
-        Err(RuleFault::Memory) => Err(AllocError),
-        Err(_) => unreachable!(),
+        Err(fault) => {
+            prove!(matches!(&fault, RuleFault::Memory));
+            Err(AllocError)
+        }
     }
 }
 
@@ -60,8 +64,10 @@ fn catalogue_of(alloc: Global, text: &[u8]) -> Result<Catalogue, AllocError>
 {
     match read_catalogue(alloc, text) {
         Ok(catalogue) => Ok(catalogue),
-        Err(CatFault::Memory) => Err(AllocError),
-        Err(_) => unreachable!(),
+        Err(fault) => {
+            prove!(matches!(&fault, CatFault::Memory));
+            Err(AllocError)
+        }
     }
 }
 
@@ -72,8 +78,10 @@ fn query_of(alloc: Global, catalogue: &Catalogue, text: &[u8]) -> Result<Query, 
 {
     match read_query(alloc, catalogue, text) {
         Ok(query) => Ok(query),
-        Err(QueryFault::Memory) => Err(AllocError),
-        Err(_) => unreachable!(),
+        Err(fault) => {
+            prove!(matches!(&fault, QueryFault::Memory));
+            Err(AllocError)
+        }
     }
 }
 
