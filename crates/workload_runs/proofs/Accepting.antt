@@ -43,19 +43,58 @@ use Rattle.workload_runs.proofs.TextLengths.{short_catalogue, short_query}
 
 pub rules_read : (fault : RuleFault) → of_rules.ReadsRules rules_text (Err fault) → fault ≡ rule_fault.Memory
 rules_read rule_fault.Memory read = refl
-rules_read _ read = absurd (no_rules_fault _ read.has)
+rules_read (rule_fault.Lexical o) read = absurd (no_rules_fault (rule_fault.Lexical o) read.has)
+rules_read (rule_fault.TooDeep k) read = absurd (no_rules_fault (rule_fault.TooDeep k) read.has)
+rules_read (rule_fault.Syntax k) read = absurd (no_rules_fault (rule_fault.Syntax k) read.has)
+rules_read (rule_fault.Limit k what) read = absurd (no_rules_fault (rule_fault.Limit k what) read.has)
+rules_read (rule_fault.Unknown k) read = absurd (no_rules_fault (rule_fault.Unknown k) read.has)
+rules_read (rule_fault.Twice k) read = absurd (no_rules_fault (rule_fault.Twice k) read.has)
+rules_read (rule_fault.Arity k) read = absurd (no_rules_fault (rule_fault.Arity k) read.has)
+rules_read (rule_fault.Kind k) read = absurd (no_rules_fault (rule_fault.Kind k) read.has)
+rules_read (rule_fault.Cycle k) read = absurd (no_rules_fault (rule_fault.Cycle k) read.has)
+rules_read (rule_fault.GlueInAccess k) read = absurd (no_rules_fault (rule_fault.GlueInAccess k) read.has)
+rules_read (rule_fault.NoRoot r) read = absurd (no_rules_fault (rule_fault.NoRoot r) read.has)
+rules_read (rule_fault.NoFormula f) read = absurd (no_rules_fault (rule_fault.NoFormula f) read.has)
+rules_read (rule_fault.NotMonotone f w n) read = absurd (no_rules_fault (rule_fault.NotMonotone f w n) read.has)
+rules_read (rule_fault.TooTall k h) read = absurd (no_rules_fault (rule_fault.TooTall k h) read.has)
+rules_read (rule_fault.TooWide k w) read = absurd (no_rules_fault (rule_fault.TooWide k w) read.has)
 
 pub rules_checked : (fault : RuleFault) → Checks generator_rules (Err fault) → fault ≡ rule_fault.Memory
 rules_checked rule_fault.Memory checks = refl
-rules_checked _ checks = absurd (accepted_or_refused generator_rules _ rules_accepted checks)
+rules_checked (rule_fault.Lexical o) checks = absurd (accepted_or_refused generator_rules (rule_fault.Lexical o) rules_accepted checks)
+rules_checked (rule_fault.TooDeep k) checks = absurd (accepted_or_refused generator_rules (rule_fault.TooDeep k) rules_accepted checks)
+rules_checked (rule_fault.Syntax k) checks = absurd (accepted_or_refused generator_rules (rule_fault.Syntax k) rules_accepted checks)
+rules_checked (rule_fault.Limit k what) checks = absurd (accepted_or_refused generator_rules (rule_fault.Limit k what) rules_accepted checks)
+rules_checked (rule_fault.Unknown k) checks = absurd (accepted_or_refused generator_rules (rule_fault.Unknown k) rules_accepted checks)
+rules_checked (rule_fault.Twice k) checks = absurd (accepted_or_refused generator_rules (rule_fault.Twice k) rules_accepted checks)
+rules_checked (rule_fault.Arity k) checks = absurd (accepted_or_refused generator_rules (rule_fault.Arity k) rules_accepted checks)
+rules_checked (rule_fault.Kind k) checks = absurd (accepted_or_refused generator_rules (rule_fault.Kind k) rules_accepted checks)
+rules_checked (rule_fault.Cycle k) checks = absurd (accepted_or_refused generator_rules (rule_fault.Cycle k) rules_accepted checks)
+rules_checked (rule_fault.GlueInAccess k) checks = absurd (accepted_or_refused generator_rules (rule_fault.GlueInAccess k) rules_accepted checks)
+rules_checked (rule_fault.NoRoot r) checks = absurd (accepted_or_refused generator_rules (rule_fault.NoRoot r) rules_accepted checks)
+rules_checked (rule_fault.NoFormula f) checks = absurd (accepted_or_refused generator_rules (rule_fault.NoFormula f) rules_accepted checks)
+rules_checked (rule_fault.NotMonotone f w n) checks = absurd (accepted_or_refused generator_rules (rule_fault.NotMonotone f w n) rules_accepted checks)
+rules_checked (rule_fault.TooTall k h) checks = absurd (accepted_or_refused generator_rules (rule_fault.TooTall k h) rules_accepted checks)
+rules_checked (rule_fault.TooWide k w) checks = absurd (accepted_or_refused generator_rules (rule_fault.TooWide k w) rules_accepted checks)
 
 pub catalogue_read : (text : List ℕ) → IsCatalogueText text → (fault : CatFault) → of_catalogue.ReadsCatalogue text (Err fault) → fault ≡ catalogue_fault.Memory
 catalogue_read text is catalogue_fault.Memory read = refl
-catalogue_read text is _ read = absurd (is.accepted.clear _ read.has)
+catalogue_read text is (catalogue_fault.Lexical o) read = absurd (is.accepted.clear (catalogue_fault.Lexical o) read.has)
+catalogue_read text is (catalogue_fault.TooDeep k) read = absurd (is.accepted.clear (catalogue_fault.TooDeep k) read.has)
+catalogue_read text is (catalogue_fault.Syntax k) read = absurd (is.accepted.clear (catalogue_fault.Syntax k) read.has)
+catalogue_read text is (catalogue_fault.Unknown k) read = absurd (is.accepted.clear (catalogue_fault.Unknown k) read.has)
+catalogue_read text is (catalogue_fault.Twice k) read = absurd (is.accepted.clear (catalogue_fault.Twice k) read.has)
+catalogue_read text is (catalogue_fault.Limit k what) read = absurd (is.accepted.clear (catalogue_fault.Limit k what) read.has)
 
 pub query_read : (c : Catalogue) (text : List ℕ) → IsQueryText c text → (fault : QueryFault) → of_query.ReadsQuery c text (Err fault) → fault ≡ query_fault.Memory
 query_read c text is query_fault.Memory read = refl
-query_read c text is _ read = absurd (is.accepted.clear _ read.has)
+query_read c text is (query_fault.Lexical o) read = absurd (is.accepted.clear (query_fault.Lexical o) read.has)
+query_read c text is (query_fault.TooDeep k) read = absurd (is.accepted.clear (query_fault.TooDeep k) read.has)
+query_read c text is (query_fault.Syntax k) read = absurd (is.accepted.clear (query_fault.Syntax k) read.has)
+query_read c text is (query_fault.Unknown k) read = absurd (is.accepted.clear (query_fault.Unknown k) read.has)
+query_read c text is (query_fault.Twice k) read = absurd (is.accepted.clear (query_fault.Twice k) read.has)
+query_read c text is (query_fault.Limit k what) read = absurd (is.accepted.clear (query_fault.Limit k what) read.has)
+query_read c text is (query_fault.TypeClash k) read = absurd (is.accepted.clear (query_fault.TypeClash k) read.has)
 
 -- ---- what the texts say
 

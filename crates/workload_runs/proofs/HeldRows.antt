@@ -23,7 +23,7 @@ use Rattle.workload_runs.specs.HeldRows.{HasRows, HaveRows}
 -- ---- a number in decimal is read as an integer
 
 tested : (test : ℕ → Bool) (from count n : ℕ) → list_all test (range_with_len from count) ≡ true → from ≤ n → n < from + count → test n ≡ true
-tested test from zero n all low high = omega arith
+tested test from zero n all low high = absurd (omega (arith, low, high))
 tested test from (suc count) n all low high =
     let parts = and_parts (test from) (list_all test (range_with_len (from + 1) count)) all in
     elim (first_or_later from n low) [

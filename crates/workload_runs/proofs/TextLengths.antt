@@ -27,7 +27,7 @@ IsBrief x = length (written x) ≤ 24
 
 short_gap : (x y : Lexeme) → length (gap x y) ≤ 1
 short_gap x y = go (hangs y || leads x || calls x y) where
-  go : (b : Bool) → length (if b then [] else 32 ∷ []) ≤ 1
+  go : (b : Bool) → length {A = ℕ} (if b then [] else 32 ∷ []) ≤ 1
   go true = omega arith
   go false = omega arith
 
@@ -81,7 +81,7 @@ up_to_8 P a b c d e f g h i (suc (suc (suc (suc (suc zero))))) few = f
 up_to_8 P a b c d e f g h i (suc (suc (suc (suc (suc (suc zero)))))) few = g
 up_to_8 P a b c d e f g h i (suc (suc (suc (suc (suc (suc (suc zero))))))) few = h
 up_to_8 P a b c d e f g h i (suc (suc (suc (suc (suc (suc (suc (suc zero)))))))) few = i
-up_to_8 P a b c d e f g h i (suc (suc (suc (suc (suc (suc (suc (suc (suc n))))))))) few = omega arith
+up_to_8 P a b c d e f g h i (suc (suc (suc (suc (suc (suc (suc (suc (suc n))))))))) few = absurd (omega (arith, few))
 
 brief_name : (letter number : ℕ) → number ≤ 8 → length (letter ∷ decimal number) ≤ 24
 brief_name letter number few = let own = length-decimal-le 1 number (omega arith) (omega arith) (omega arith) in omega (arith, own)
