@@ -8,6 +8,8 @@ use Rattle.star_model.specs.declared.faults.RuleFault.{RuleFault}
 use Rattle.star_model.specs.declared.faults.RuleFault.TheVariants as rule_fault
 use Rattle.star_model.specs.declared.query.Query.{Query}
 use Rattle.star_model.specs.declared.rules.RuleFile.{RuleFile}
+use Rattle.star_model.specs.WellFormedRules.{WellFormedRules}
+use Rattle.rule_grammar.specs.Rules.{SpellsRules}
 use Rattle.rule_grammar.proofs.Laws.{one_rule_file}
 use Rattle.star_syntax.specs.Faults as of_rules
 use Rattle.star_check.specs.Checking.{Checks}
@@ -30,14 +32,14 @@ use Rattle.workload_gen.specs.Trees.{catalogue_tree, query_tree}
 use Rattle.workload_gen.specs.Workloads.{IsSize, workload}
 use Rattle.workload_gen.specs.declared.workload.Workload.{Workload}
 use Rattle.workload_gen.proofs.Laws.{accepts_catalogue, accepts_query}
-use Rattle.workload_runs.specs.AcceptedTexts.{IsCatalogueText, IsQueryText}
+use Rattle.workload_runs.specs.AcceptedTexts.{IsShort, IsCatalogueText, IsQueryText}
 use Rattle.workload_runs.specs.Cases.{Says}
 use Rattle.workload_runs.specs.Made.{IsMade}
 use Rattle.workload_runs.specs.RulesTree.{generator_rules}
 use Rattle.workload_runs.proofs.RulesAccepted.{rules_accepted}
 use Rattle.workload_runs.proofs.RulesSpelled.{spells_rules}
 use Rattle.workload_runs.proofs.RulesWithin.{no_rules_fault, formed_rules, fitting_rules}
-use Rattle.workload_runs.proofs.TextLengths.{short_catalogue, short_query}
+use Rattle.workload_runs.proofs.TextLengths.{short_rules, short_catalogue, short_query}
 
 -- ---- faults that don't come
 
@@ -98,6 +100,21 @@ query_read c text is (query_fault.TypeClash k) read = absurd (is.accepted.clear 
 
 -- ---- what the texts say
 
+pub short_as : (text : List ℕ) → text ≡ rules_text → IsShort text
+short_as text is = subst IsShort (sym is) short_rules
+
+pub rules_wanting : (text : List ℕ) → text ≡ rules_text → (fault : RuleFault) → of_rules.ReadsRules text (Err fault) → fault ≡ rule_fault.Memory
+rules_wanting text is fault read = rules_read fault (subst (λ t. of_rules.ReadsRules t (Err fault)) is read)
+
+pub rules_are : (text : List ℕ) → text ≡ rules_text → (rules : RuleFile) → of_rules.ReadsRules text (Ok rules) → rules ≡ generator_rules
+rules_are text is rules read = one_rule_file text rules generator_rules read.spells (subst (λ t. SpellsRules t generator_rules) (sym is) spells_rules)
+
+pub check_wanting : (rules : RuleFile) → rules ≡ generator_rules → (fault : RuleFault) → Checks rules (Err fault) → fault ≡ rule_fault.Memory
+check_wanting rules is fault checks = rules_checked fault (subst (λ r. Checks r (Err fault)) is checks)
+
+pub formed_as : (rules : RuleFile) → rules ≡ generator_rules → WellFormedRules rules
+formed_as rules is = subst WellFormedRules (sym is) formed_rules
+
 pub catalogue_given : (seed size : ℕ) → IsSize size → IsCatalogueText (workload seed size).catalogue
 catalogue_given seed size is = record { short = short_catalogue seed size is; catalogue = catalogue_tree (drawn_tables seed size); accepted = accepts_catalogue seed size is }
 
@@ -128,6 +145,17 @@ workload_says seed size is =
     }
 
 module _ (made : Workload) (is : IsMade made) where
+  pub made_rules : made.rules ≡ rules_text
+  made_rules = ap (λ (w : Workload). w.rules) is.are
+
+  pub made_catalogue : IsCatalogueText made.catalogue
+  made_catalogue = subst (λ (w : Workload). IsCatalogueText w.catalogue) (sym is.are) (catalogue_given is.seed is.size is.is_size)
+
+  pub made_query : (c : Catalogue) → of_catalogue.IsAccepted made.catalogue c → IsQueryText c made.query
+  made_query c accepted =
+      let here : of_catalogue.IsAccepted (workload is.seed is.size).catalogue c = subst (λ (w : Workload). of_catalogue.IsAccepted w.catalogue c) is.are accepted in
+      subst (λ (w : Workload). IsQueryText c w.query) (sym is.are) (query_given is.seed is.size is.is_size c here)
+
   -- what is read says what the texts say
   pub case_says : (rules : RuleFile) (c : Catalogue) (q asked : Query) → rules ≡ generator_rules → of_catalogue.IsAccepted made.catalogue c
       → of_query.IsAccepted c made.query q → asked ≡ weighed (selects_of rules) q → Says made rules asked
