@@ -1,14 +1,20 @@
 -- Loading the tables one after the other.
-use Rattle.std.proofs.Common.{◌≡◌, ◌<◌, ◌≤◌, ◌+◌, ℕ, zero, suc, ◌⊎◌, inl, inr, List, [], ◌∷◌, ◌++◌, length, map, None, Some, Ok, Err, refl, ap, sym, ◌∙◌, subst, arith}
-use Rattle.std.specs.Prelude.{slice_get, slice_set, slice_index_or, unwrap_or, Option, IsSome}
+use Rattle.std.proofs.Common.{◌≡◌, ◌<◌, ◌≤◌, ◌+◌, ℕ, zero, suc, ◌⊎◌, inl, inr, Bool, true, List, [], ◌∷◌, ◌++◌, length, map, None, Some, Ok, Err, refl, ap, sym, ◌∙◌, subst, arith}
+use Rattle.std.specs.Prelude.{slice_get, slice_set, slice_index_or, unwrap_or, nat_lt, Option, IsSome}
+use Rattle.std.specs.List.{list_all}
 use Rattle.std.specs.Option.{IsSomeAnd}
+use Rattle.std.proofs.lemmas.Bool.{and_parts, ltb-true}
 use Rattle.std.proofs.lemmas.List.{length-append, length-set}
 use Rattle.std.proofs.lemmas.Option.{slice_get_within}
 use Rattle.sb_outside.specs.Records.{Records}
 use Rattle.star_model.specs.Answers.{Data}
 use Rattle.star_model.specs.Data.{table_rows}
+use Rattle.star_model.specs.WellFormed.{WellFormedQuery}
 use Rattle.star_model.specs.declared.catalogue.Catalogue.{Catalogue}
 use Rattle.star_model.specs.declared.catalogue.Value.{Value}
+use Rattle.star_model.specs.declared.query.Query.{Query}
+use Rattle.star_model.specs.declared.query.QuantDef.{QuantDef}
+use Rattle.plan_execute.specs.Loaded.{AreLoaded}
 use Rattle.row_store.specs.Faults.{Loads}
 use Rattle.row_store.specs.declared.fault.TableFault.{TableFault}
 use Rattle.row_store.specs.declared.fault.TableFault.TheVariants as fault
@@ -122,3 +128,13 @@ module _ (c : Catalogue) (all : List Records) where
       let found = some_at all n (omega (arith, same, within)) in
       let own = came.before n found.0 (omega (arith, same, within, all_loaded)) found.1 in
       subst (λ (o : Option (Option (List (List Value)))). IsSomeAnd o IsSome) (sym own.at) refl
+
+passes_at : {A : Type 0} (test : A → Bool) (xs : List A) (n : ℕ) (x : A) → list_all test xs ≡ true → slice_get xs n ≡ Some x → test x ≡ true
+passes_at test [] n x all at = cc
+passes_at test (y ∷ xs) zero x all at = let same : y ≡ x = cc in ap test (sym same) ∙ (and_parts (test y) (list_all test xs) all).0
+passes_at test (y ∷ xs) (suc n) x all at = passes_at test xs n x (and_parts (test y) (list_all test xs) all).1 at
+
+-- the tables of any quantifiers are loaded where each of the catalogue is
+pub quantifiers_loaded : (q : Query) → WellFormedQuery q → (tables : Tables) (quants : ℕ) → AreAllLoaded q.catalogue tables → AreLoaded q tables quants
+quantifiers_loaded q formed tables quants all n in_set d at =
+    all d.table (ltb-true d.table (length q.catalogue.tables) (passes_at (λ (d : QuantDef). nat_lt d.table (length q.catalogue.tables)) q.quants n d formed.tables at))
