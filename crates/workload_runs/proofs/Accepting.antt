@@ -1,5 +1,6 @@
 -- Reading the texts of a workload fails only where memory is wanting.
-use Rattle.std.proofs.Common.{◌≡◌, ℕ, List, [], Ok, Err, Result, refl, ap, sym, ◌∙◌, subst}
+use Rattle.std.proofs.Common.{◌≡◌, ℕ, suc, ◌+◌, List, [], ◌∷◌, length, Ok, Err, refl, ap, sym, ◌∙◌, subst}
+use Rattle.std.proofs.lemmas.List.{length-map}
 use Rattle.star_model.specs.Accepted.{IsAccepted, IsRefusedBy}
 use Rattle.star_model.specs.Selectivity.{selects_of, weighed}
 use Rattle.star_model.specs.WellFormed.{WellFormedQuery}
@@ -28,13 +29,17 @@ use Rattle.workload_gen.specs.CatalogueText.{catalogue_text}
 use Rattle.workload_gen.specs.QueryText.{query_text}
 use Rattle.workload_gen.specs.RulesText.{rules_text}
 use Rattle.workload_gen.specs.Tables.{drawn_tables}
-use Rattle.workload_gen.specs.Trees.{catalogue_tree, query_tree}
+use Rattle.workload_gen.specs.Records.{records_of}
+use Rattle.workload_gen.specs.Trees.{table_defs, catalogue_tree, query_tree}
+use Rattle.workload_gen.specs.declared.tables.DrawnTable.{DrawnTable}
 use Rattle.workload_gen.specs.Workloads.{IsSize, workload}
 use Rattle.workload_gen.specs.declared.workload.Workload.{Workload}
 use Rattle.workload_gen.proofs.Laws.{accepts_catalogue, accepts_query}
 use Rattle.workload_runs.specs.AcceptedTexts.{IsShort, IsCatalogueText, IsQueryText}
 use Rattle.workload_runs.specs.Cases.{Says}
+use Rattle.workload_runs.specs.HeldRows.{HaveRows}
 use Rattle.workload_runs.specs.Made.{IsMade}
+use Rattle.workload_runs.proofs.HeldRows.{rows_held}
 use Rattle.workload_runs.specs.RulesTree.{generator_rules}
 use Rattle.workload_runs.proofs.RulesAccepted.{rules_accepted}
 use Rattle.workload_runs.proofs.RulesSpelled.{spells_rules}
@@ -144,6 +149,10 @@ workload_says seed size is =
       formed = (accepts_query seed size is).formed;
     }
 
+length-defs : (number : ℕ) (tables : List DrawnTable) → length (table_defs number tables) ≡ length tables
+length-defs number [] = refl
+length-defs number (t ∷ later) = ap suc (length-defs (number + 1) later)
+
 module _ (made : Workload) (is : IsMade made) where
   pub made_rules : made.rules ≡ rules_text
   made_rules = ap (λ (w : Workload). w.rules) is.are
@@ -181,3 +190,16 @@ module _ (made : Workload) (is : IsMade made) where
       let spells : SpellsCatalogue (workload is.seed is.size).catalogue says.spelled.catalogue =
       subst (λ (w : Workload). SpellsCatalogue w.catalogue says.spelled.catalogue) is.are says.of_catalogue in
       ap (λ (q : Query). q.catalogue) says.by_rules ∙ one_tree is.seed is.size is.is_size says.spelled.catalogue spells
+
+  -- its tables are those of the catalogue, and their records hold rows
+  pub as_many_tables : (rules : RuleFile) (query : Query) → Says made rules query → length made.tables ≡ length query.catalogue.tables
+  as_many_tables rules query says =
+      let tables = drawn_tables is.seed is.size in
+      let records : length made.tables ≡ length tables = ap (λ (w : Workload). length w.tables) is.are ∙ length-map tables records_of in
+      records ∙ sym (ap (λ (c : Catalogue). length c.tables) (case_catalogue rules query says) ∙ length-defs 1 tables)
+
+  pub records_held : (rules : RuleFile) (query : Query) → Says made rules query → HaveRows query.catalogue made.tables
+  records_held rules query says =
+      let held = rows_held is.seed is.size is.is_size in
+      subst (λ (w : Workload). HaveRows query.catalogue w.tables) (sym is.are)
+      (subst (λ (c : Catalogue). HaveRows c (workload is.seed is.size).tables) (sym (case_catalogue rules query says)) held)
