@@ -1,9 +1,7 @@
 -- Reading the texts of a workload fails only where memory is wanting.
 use Rattle.std.proofs.Common.{◌≡◌, ℕ, suc, ◌+◌, List, [], ◌∷◌, length, Ok, Err, refl, ap, sym, ◌∙◌, subst}
 use Rattle.std.proofs.lemmas.List.{length-map}
-use Rattle.star_model.specs.Accepted.{IsAccepted, IsRefusedBy}
 use Rattle.star_model.specs.Selectivity.{selects_of, weighed}
-use Rattle.star_model.specs.WellFormed.{WellFormedQuery}
 use Rattle.star_model.specs.declared.catalogue.Catalogue.{Catalogue}
 use Rattle.star_model.specs.declared.faults.RuleFault.{RuleFault}
 use Rattle.star_model.specs.declared.faults.RuleFault.TheVariants as rule_fault
@@ -37,7 +35,7 @@ use Rattle.workload_gen.specs.declared.workload.Workload.{Workload}
 use Rattle.workload_gen.proofs.Laws.{accepts_catalogue, accepts_query}
 use Rattle.workload_runs.specs.AcceptedTexts.{IsShort, IsCatalogueText, IsQueryText}
 use Rattle.workload_runs.specs.Cases.{Says}
-use Rattle.workload_runs.specs.HeldRows.{HaveRows}
+use Rattle.workload_runs.specs.HeldRows.{HoldRows}
 use Rattle.workload_runs.specs.Made.{IsMade}
 use Rattle.workload_runs.proofs.HeldRows.{rows_held}
 use Rattle.workload_runs.specs.RulesTree.{generator_rules}
@@ -198,8 +196,8 @@ module _ (made : Workload) (is : IsMade made) where
       let records : length made.tables ≡ length tables = ap (λ (w : Workload). length w.tables) is.are ∙ length-map tables records_of in
       records ∙ sym (ap (λ (c : Catalogue). length c.tables) (case_catalogue rules query says) ∙ length-defs 1 tables)
 
-  pub records_held : (rules : RuleFile) (query : Query) → Says made rules query → HaveRows query.catalogue made.tables
+  pub records_held : (rules : RuleFile) (query : Query) → Says made rules query → HoldRows query.catalogue made.tables
   records_held rules query says =
       let held = rows_held is.seed is.size is.is_size in
-      subst (λ (w : Workload). HaveRows query.catalogue w.tables) (sym is.are)
-      (subst (λ (c : Catalogue). HaveRows c (workload is.seed is.size).tables) (sym (case_catalogue rules query says)) held)
+      subst (λ (w : Workload). HoldRows query.catalogue w.tables) (sym is.are)
+      (subst (λ (c : Catalogue). HoldRows c (workload is.seed is.size).tables) (sym (case_catalogue rules query says)) held)

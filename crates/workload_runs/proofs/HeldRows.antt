@@ -1,15 +1,14 @@
 -- The records of a workload's tables hold rows.
-use Rattle.std.proofs.Common.{◌≡◌, ℕ, zero, suc, ◌⊎◌, inl, inr, Bool, true, false, ◌+◌, ◌<◌, ◌≤◌, List, [], ◌∷◌, length, map, Option, Some, None, refl, ap, sym, ◌∙◌, subst, arith}
-use Rattle.std.specs.Prelude.{decimal, is_some, slice_get, option_and_then, option_map, nat_le, if◌then◌else◌, ◌&&◌}
+use Rattle.std.proofs.Common.{◌≡◌, ℕ, zero, suc, ◌⊎◌, inl, inr, Bool, true, ◌+◌, ◌<◌, ◌≤◌, List, [], ◌∷◌, length, map, Option, Some, None, refl, ap, sym, ◌∙◌, subst, arith}
+use Rattle.std.specs.Prelude.{decimal, is_some, slice_get, option_and_then, option_map, nat_le, if◌then◌else◌}
 use Rattle.std.specs.Fmt.{digits}
 use Rattle.std.specs.List.{list_all, range_with_len}
 use Rattle.std.proofs.lemmas.Bool.{and_parts, le-leb}
 use Rattle.sb_outside.specs.Records.{Records}
-use Rattle.star_model.specs.Data.{Record, all_of, row_in, rows_in, table_rows, value_in, header_of, places_in}
+use Rattle.star_model.specs.Data.{Record, all_of, row_in, rows_in, value_in}
 use Rattle.star_model.specs.Every.{Every}
 use Rattle.star_model.specs.declared.catalogue.Catalogue.{Catalogue}
 use Rattle.star_model.specs.declared.catalogue.ColType.TheVariants as type
-use Rattle.star_model.specs.declared.catalogue.TableDef.{TableDef}
 use Rattle.star_model.specs.declared.catalogue.Value.{Value}
 use Rattle.workload_gen.specs.declared.tables.DrawnTable.{DrawnTable}
 use Rattle.workload_gen.specs.Links.{IsLinked, AreLinked}
@@ -17,8 +16,8 @@ use Rattle.workload_gen.specs.Records.{header, row_record, rows_from, records_of
 use Rattle.workload_gen.specs.Tables.{drawn_tables}
 use Rattle.workload_gen.specs.Trees.{table_def, table_defs, catalogue_tree}
 use Rattle.workload_gen.specs.Workloads.{IsSize, workload}
-use Rattle.workload_gen.proofs.Laws.{tables_linked, tables_count}
-use Rattle.workload_runs.specs.HeldRows.{HasRows, HaveRows}
+use Rattle.workload_gen.proofs.Laws.{tables_linked}
+use Rattle.workload_runs.specs.HeldRows.{HoldsRows, HoldRows}
 
 -- ---- a number in decimal is read as an integer
 
@@ -79,7 +78,7 @@ smaller bound below (prev ∷ later) few small = (omega (arith, few, small.0), s
 
 -- where the table has this place in the catalogue
 table_holds : (c : Catalogue) (n number rows_before : ℕ) (table : DrawnTable) → rows_before ≤ 19 → IsLinked rows_before table
-    → slice_get c.tables n ≡ Some (table_def number table) → HasRows c n (records_of table)
+    → slice_get c.tables n ≡ Some (table_def number table) → HoldsRows c n (records_of table)
 table_holds c n number rows_before table few linked at =
     let count = linked.each_row in
     let held = all_rows number table 0 table.prevs (omega (arith, count, linked.rows.1)) (smaller 20 rows_before table.prevs (omega (arith, few)) linked.to_a_row) in
@@ -110,8 +109,8 @@ stands number rows_before (table ∷ later) (suc n) records few linked at =
     let s = stands (number + 1) table.rows later n records linked.0.rows.1 linked.1 at in
     record { own = s.own; table = s.table; rows_before = s.rows_before; few = s.few; linked = s.linked; are = s.are; at = s.at }
 
-pub rows_held : (seed size : ℕ) → IsSize size → HaveRows (catalogue_tree (drawn_tables seed size)) (workload seed size).tables
+pub rows_held : (seed size : ℕ) → IsSize size → HoldRows (catalogue_tree (drawn_tables seed size)) (workload seed size).tables
 rows_held seed size is n records at =
     let tables = drawn_tables seed size in
     let s = stands 1 1 tables n records (omega arith) (tables_linked seed size) at in
-    subst (HasRows (catalogue_tree tables) n) (sym s.are) (table_holds (catalogue_tree tables) n s.own s.rows_before s.table s.few s.linked s.at)
+    subst (HoldsRows (catalogue_tree tables) n) (sym s.are) (table_holds (catalogue_tree tables) n s.own s.rows_before s.table s.few s.linked s.at)

@@ -1,5 +1,5 @@
 -- Loading the tables one after the other.
-use Rattle.std.proofs.Common.{◌≡◌, ◌<◌, ◌≤◌, ◌+◌, ℕ, zero, suc, ◌⊎◌, inl, inr, Bool, true, List, [], ◌∷◌, ◌++◌, length, map, None, Some, Ok, Err, refl, ap, sym, ◌∙◌, subst, arith}
+use Rattle.std.proofs.Common.{◌≡◌, ◌<◌, ◌≤◌, ◌+◌, ℕ, zero, suc, ◌⊎◌, inl, inr, Bool, true, List, [], ◌∷◌, ◌++◌, length, map, Some, Err, refl, ap, sym, ◌∙◌, subst, arith}
 use Rattle.std.specs.Prelude.{slice_get, slice_set, slice_index_or, unwrap_or, nat_lt, Option, IsSome}
 use Rattle.std.specs.List.{list_all}
 use Rattle.std.specs.Option.{IsSomeAnd}
@@ -7,7 +7,6 @@ use Rattle.std.proofs.lemmas.Bool.{and_parts, ltb-true}
 use Rattle.std.proofs.lemmas.List.{length-append, length-set}
 use Rattle.std.proofs.lemmas.Option.{slice_get_within}
 use Rattle.sb_outside.specs.Records.{Records}
-use Rattle.star_model.specs.Answers.{Data}
 use Rattle.star_model.specs.Data.{table_rows}
 use Rattle.star_model.specs.WellFormed.{WellFormedQuery}
 use Rattle.star_model.specs.declared.catalogue.Catalogue.{Catalogue}
@@ -20,11 +19,11 @@ use Rattle.row_store.specs.declared.fault.TableFault.{TableFault}
 use Rattle.row_store.specs.declared.fault.TableFault.TheVariants as fault
 use Rattle.row_store.proofs.Laws.{rows_loaded}
 use Rattle.row_steps.specs.declared.tables.Tables.{Tables}
-use Rattle.workload_runs.specs.HeldRows.{HasRows, HaveRows, AreAllLoaded}
+use Rattle.workload_runs.specs.HeldRows.{HoldsRows, HoldRows, AreAllLoaded}
 use Rattle.workload_runs.specs.TableRows.{AreRows}
 
 -- records that hold rows have no fault
-pub only_memory : (c : Catalogue) (n : ℕ) (records : Records) → n < length c.tables → HasRows c n records → (f : TableFault) → Loads c n records (Err f) → f ≡ fault.Memory
+pub only_memory : (c : Catalogue) (n : ℕ) (records : Records) → n < length c.tables → HoldsRows c n records → (f : TableFault) → Loads c n records (Err f) → f ≡ fault.Memory
 only_memory c n records within held f loads = elim (rows_loaded c n records within held.0 held.1 (Err f) loads) [
   | inl is ↦ absurd cc
   | inr is ↦ cc
@@ -93,7 +92,7 @@ module _ (c : Catalogue) (all : List Records) where
           | inl old ↦ (
               let was = came.before n records old here in
               record { rows = was.rows; at = get_before loaded (Some rows) n (omega (arith, old, counted)) ∙ was.at; are = was.are }
-            )
+              )
           | inr new ↦ (
               let own_is : own ≡ records = some_same (sym at ∙ (came.behind place (omega arith) ∙ (ap (λ m. slice_get all m) (sym new) ∙ here))) in
               record {
@@ -101,7 +100,7 @@ module _ (c : Catalogue) (all : List Records) where
                 at = ap (λ m. slice_get (loaded ++ Some rows ∷ []) m) (new ∙ sym counted) ∙ get_here loaded (Some rows);
                 are = ap (λ m. table_rows c m records) new ∙ (ap (λ r. table_rows c place r) (sym own_is) ∙ are);
               }
-            )
+              )
         ];
         behind = λ n least. get_after left place n [] (omega (arith, least)) ∙ came.behind n (omega (arith, least));
       }
@@ -113,8 +112,8 @@ module _ (c : Catalogue) (all : List Records) where
       some_same e = cc
 
   -- the records that are still there at this place are its own
-  pub own_records : (left : List Records) (loaded : List (Option (List (List Value)))) (place : ℕ) (own : Records) → CameTo left loaded place → HaveRows c all
-      → slice_get left place ≡ Some own → HasRows c place own
+  pub own_records : (left : List Records) (loaded : List (Option (List (List Value)))) (place : ℕ) (own : Records) → CameTo left loaded place → HoldRows c all
+      → slice_get left place ≡ Some own → HoldsRows c place own
   own_records left loaded place own came held at = held place own (sym (came.behind place (omega arith)) ∙ at)
 
   pub rows_are : (left : List Records) (loaded : List (Option (List (List Value)))) (place : ℕ) → CameTo left loaded place → length all ≤ place

@@ -1,5 +1,5 @@
 -- A memo that holds what a query asks for has one set for each goal, and in these sets as many plans as vectors are on the goals' frontiers.
-use Rattle.std.proofs.Common.{◌≡◌, ℕ, zero, suc, ◌+◌, inl, inr, ◌↔◌, Bool, true, false, List, [], ◌∷◌, length, map, Option, Some, None, refl, ap, sym, subst, ◌∙◌, arith}
+use Rattle.std.proofs.Common.{◌≡◌, ℕ, zero, suc, ◌+◌, inl, inr, Bool, true, false, List, [], ◌∷◌, length, map, Option, Some, None, refl, ap, sym, subst, ◌∙◌, arith}
 use Rattle.std.specs.Prelude.{Contains, IsSome, is_some, slice_get, take, fold, flat_map, sum_by, cond, nat_eq, ◌&&◌}
 use Rattle.std.specs.List.{IsDistinct, find}
 use Rattle.std.specs.Option.{option_map}
@@ -9,8 +9,6 @@ use Rattle.std.proofs.lemmas.Option.{slice_get_within, get_or_from_slice_get}
 use Rattle.std.proofs.lemmas.List.Concat.{length-flat_map}
 use Rattle.std.proofs.lemmas.List.Elements.{All-from_recursion, All-contains}
 use Rattle.std.proofs.lemmas.Map.Keys.{IsDistinct-head, IsDistinct-tail}
-use Rattle.star_model.specs.AskedGoals.{AskedGoal}
-use Rattle.star_model.specs.Derivations.{OnFrontier}
 use Rattle.star_model.specs.Expected.{ForGoal}
 use Rattle.star_model.specs.declared.plans.Goal.{Goal}
 use Rattle.star_model.specs.declared.plans.Props.{Props}
@@ -23,7 +21,7 @@ use Rattle.exchange.specs.Places.{IsBestOf}
 use Rattle.exchange.proofs.Laws.{has_frontier, vectors_once}
 use Rattle.search_places.specs.Memos.{HoldsFrontiers}
 use Rattle.star_expand.specs.Expanding.{HoldsQueryGoals}
-use Rattle.workload_runs.specs.Counts.{EachOnce, ListsEach, IsCountOf}
+use Rattle.workload_runs.specs.Counts.{EachOnce, IsCountOf}
 use Rattle.workload_runs.specs.AskedFrontiers.{IsAsked, IsKept}
 use Rattle.workload_runs.proofs.ListLaws.{here, further, head_or_further, in_map, from_map, in_flat_map, from_flat_map, nothing_in, once_both, once_mapped}
 
@@ -60,7 +58,7 @@ own_plans (t ∷ memo) apart g plans in_ = elim (head_or_further t (g, plans) me
       let in_goals : Contains goals g = in_map (λ (s : GoalSet). s.0) memo (g, plans) later in
       let not_first : same_goal t.0 g ≡ false = other_later t.0 g goals apart in_goals in
       then (same_goal g t.0) refl not_first (own_plans memo (IsDistinct-tail same_goal t.0 goals apart) g plans later)
-    )
+      )
 ]
   where
     at : Bool → Option (List DerivedPlan)

@@ -1,5 +1,5 @@
 -- The statements of the rules keep the limits by far, so their text has no fault of them.
-use Rattle.std.proofs.Common.{◌≡◌, ◌+◌, ◌≤◌, ◌<◌, ℕ, zero, suc, Bool, true, false, ◌&&◌, List, [], ◌∷◌, ◌++◌, length, refl, ap, sym, ◌∙◌, arith, inl, inr}
+use Rattle.std.proofs.Common.{◌≡◌, ◌+◌, ◌≤◌, ◌<◌, zero, suc, Bool, true, false, ◌&&◌, List, [], ◌∷◌, ◌++◌, length, refl, ap, sym, ◌∙◌, arith, inl, inr}
 use Rattle.std.specs.Prelude.{nat_le, Contains}
 use Rattle.std.specs.List.{list_all}
 use Rattle.std.proofs.lemmas.Bool.{leb-true}
@@ -14,7 +14,6 @@ use Rattle.star_model.specs.declared.faults.LimitKind.TheVariants as limit
 use Rattle.star_model.specs.declared.faults.RuleFault.{RuleFault}
 use Rattle.star_model.specs.declared.rules.Alternative.{Alternative}
 use Rattle.star_model.specs.declared.rules.FormulaDef.{FormulaDef}
-use Rattle.star_model.specs.declared.rules.SelectDef.{SelectDef}
 use Rattle.star_model.specs.declared.rules.StarDef.{StarDef}
 use Rattle.spelling.specs.Firsts.{NoneFrom, NoneHas}
 use Rattle.spelling.specs.Lexemes.{Lexeme, Word, Number, Text, Symbol}

@@ -1,5 +1,5 @@
 -- The texts of a workload are short: each statement has few lexemes, and each lexeme few bytes.
-use Rattle.std.proofs.Common.{◌≡◌, ℕ, zero, suc, Bool, true, false, ◌||◌, ◌+◌, ◌*◌, ◌<◌, ◌≤◌, ◌^◌, if◌then◌else◌, List, [], ◌∷◌, ◌++◌, length, map, codes, refl, ap, ◌∙◌, subst, arith}
+use Rattle.std.proofs.Common.{◌≡◌, ℕ, zero, suc, Bool, true, false, ◌||◌, ◌+◌, ◌*◌, ◌≤◌, if◌then◌else◌, List, [], ◌∷◌, ◌++◌, length, map, ap, ◌∙◌, arith}
 use Rattle.std.specs.Prelude.{decimal}
 use Rattle.std.specs.Fmt.{digits}
 use Rattle.std.proofs.lemmas.List.{length-append, length-map}
@@ -7,12 +7,12 @@ use Rattle.std.proofs.lemmas.Fmt.{length-decimal-le}
 use Rattle.star_model.specs.Every.{Every}
 use Rattle.spelling.specs.FormedLexemes.{every_both, map_every}
 use Rattle.spelling.specs.Layout.{layout, line, spaced, gap, written, hangs, leads, calls}
-use Rattle.spelling.specs.Lexemes.{Lexeme, Word, Number, Text, semicolon}
+use Rattle.spelling.specs.Lexemes.{Lexeme, Text, semicolon}
 use Rattle.catalogue.specs.Catalogues.{CatalogueStatement, Table, Index, catalogue_lexemes}
 use Rattle.workload_gen.specs.declared.tables.DrawnTable.{DrawnTable}
 use Rattle.workload_gen.specs.CatalogueText.{site_statement, table_part, index_part, table_statements, statements_from, catalogue_statements, catalogue_text}
 use Rattle.workload_gen.specs.Links.{IsLinked, AreLinked}
-use Rattle.workload_gen.specs.Names.{table_name, index_name, file_name}
+use Rattle.workload_gen.specs.Names.{file_name}
 use Rattle.workload_gen.specs.QueryText.{query_text}
 use Rattle.workload_gen.specs.RulesText.{rules_text}
 use Rattle.workload_gen.specs.Tables.{drawn_tables}
@@ -107,9 +107,59 @@ short_table number rows_before table few few_rows linked =
     record {
       few = omega arith;
       brief = (
-        omega arith, (name, (omega arith, (omega arith, (omega arith, (rows, (omega arith, (pages, (omega arith, (file,
-        (omega arith, (omega arith, (omega arith, (omega arith, (eight, (omega arith, (rows, (omega arith,
-        (omega arith, (omega arith, (omega arith, (eight, (omega arith, (before, (omega arith, tt)))))))))))))))))))))))),
+        omega arith,
+        (
+          name,
+          (
+            omega arith,
+            (
+              omega arith,
+              (
+                omega arith,
+                (
+                  rows,
+                  (
+                    omega arith,
+                    (
+                      pages,
+                      (
+                        omega arith,
+                        (
+                          file,
+                          (
+                            omega arith,
+                            (
+                              omega arith,
+                              (
+                                omega arith,
+                                (
+                                  omega arith,
+                                  (
+                                    eight,
+                                    (
+                                      omega arith,
+                                      (
+                                        rows,
+                                        (
+                                          omega arith,
+                                          (omega arith, (omega arith, (omega arith, (eight, (omega arith, (before, (omega arith, tt))))))),
+                                        ),
+                                      ),
+                                    ),
+                                  ),
+                                ),
+                              ),
+                            ),
+                          ),
+                        ),
+                      ),
+                    ),
+                  ),
+                ),
+              ),
+            ),
+          ),
+        ),
       );
     }
 

@@ -8,12 +8,12 @@ use Rattle.star_model.specs.declared.catalogue.Value.{Value}
 use Rattle.row_steps.specs.declared.tables.Tables.{Tables}
 
 -- records of the table with this number hold rows
-abbrev pub HasRows : Catalogue → ℕ → Records → Type 0
-HasRows catalogue n records = (rows : List (List Value)) × (table_rows catalogue n records ≡ Some rows)
+abbrev pub HoldsRows : Catalogue → ℕ → Records → Type 0
+HoldsRows catalogue n records = (rows : List (List Value)) × (table_rows catalogue n records ≡ Some rows)
 
 -- those of each table do
-abbrev pub HaveRows : Catalogue → List Records → Type 0
-HaveRows catalogue tables = (n : ℕ) (records : Records) → slice_get tables n ≡ Some records → HasRows catalogue n records
+abbrev pub HoldRows : Catalogue → List Records → Type 0
+HoldRows catalogue tables = (n : ℕ) (records : Records) → slice_get tables n ≡ Some records → HoldsRows catalogue n records
 
 -- each table of the catalogue is loaded
 abbrev pub AreAllLoaded : Catalogue → Tables → Type 0

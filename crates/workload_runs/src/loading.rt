@@ -5,7 +5,7 @@ ghost use Rattle.star_model.specs.Data.{table_rows};
 ghost use Rattle.star_model.specs.WellFormed.{WellFormedCatalogue};
 ghost use Rattle.row_steps.specs.LoadedTables.{data_of};
 ghost use Rattle.workload_runs.specs.TableRows.{AreRows};
-ghost use Rattle.workload_runs.specs.HeldRows.{HasRows, HaveRows, AreAllLoaded};
+ghost use Rattle.workload_runs.specs.HeldRows.{HoldsRows, HoldRows, AreAllLoaded};
 
 use row_steps::Tables;
 use row_store::{Table, TableFault, load};
@@ -24,7 +24,7 @@ fn load_table(
 ) -> Result<Table, AllocError>
     requires catalogue { WellFormedCatalogue catalogue.now }
     requires number { number < length catalogue.now.tables }
-    requires rows { HasRows catalogue.now number records }
+    requires rows { HoldsRows catalogue.now number records }
     ensures { IfOk result (λ rows. table_rows catalogue.now number records ≡ Some rows) }
 {
     match load(alloc, catalogue, number, records) {
@@ -56,7 +56,7 @@ pub fn load_tables(
 ) -> Result<Tables, AllocError>
     requires catalogue { WellFormedCatalogue catalogue.now }
     requires each { length records ≡ length catalogue.now.tables }
-    requires rows { HaveRows catalogue.now records }
+    requires rows { HoldRows catalogue.now records }
     ensures rows { IfOk result (λ tables. AreRows catalogue.now records (data_of tables)) }
     ensures all { IfOk result (AreAllLoaded catalogue.now) }
 {

@@ -7,7 +7,7 @@ ghost use Rattle.workload_gen.specs.Trees.{catalogue_tree, query_tree};
 ghost use Rattle.workload_gen.specs.Workloads.{IsSize, workload};
 ghost use Rattle.workload_runs.specs.AcceptedTexts.{IsShort};
 ghost use Rattle.workload_runs.specs.Cases.{Says};
-ghost use Rattle.workload_runs.specs.HeldRows.{HaveRows};
+ghost use Rattle.workload_runs.specs.HeldRows.{HoldRows};
 ghost use Rattle.workload_runs.specs.RulesTree.{generator_rules};
 
 /// The texts of each workload say rules and a query, and are short enough to be read.
@@ -22,5 +22,5 @@ pub fn workloads_are_accepted()
 /// The records of each table of a workload hold rows.
 pub fn records_hold_rows()
     ensures { (seed size : ℕ) → IsSize size
-        → HaveRows (catalogue_tree (drawn_tables seed size)) (workload seed size).tables }
+        → HoldRows (catalogue_tree (drawn_tables seed size)) (workload seed size).tables }
 {}

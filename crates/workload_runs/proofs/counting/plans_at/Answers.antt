@@ -1,5 +1,5 @@
 use Rattle.std.proofs.Common.{◌≡◌, None, Some, length, ap, sym, ◌∙◌}
-use Rattle.std.specs.Option.{option_copied, option_map}
+use Rattle.std.specs.Option.{option_map}
 use Rattle.table_set_memo.specs.Memos.{GoalSet}
 use Rattle.workload_runs.proofs.MemoCounts.{own_set}
 use Rattle.workload_runs.proofs.counting.plans_at.Goals as goal
