@@ -133,7 +133,11 @@ passes_at test [] n x all at = cc
 passes_at test (y ∷ xs) zero x all at = let same : y ≡ x = cc in ap test (sym same) ∙ (and_parts (test y) (list_all test xs) all).0
 passes_at test (y ∷ xs) (suc n) x all at = passes_at test xs n x (and_parts (test y) (list_all test xs) all).1 at
 
+-- each quantifier is of a table of the catalogue
+pub quantifier_below : (q : Query) → WellFormedQuery q → (n : ℕ) (d : QuantDef) → slice_get q.quants n ≡ Some d → d.table < length q.catalogue.tables
+quantifier_below q formed n d at =
+    ltb-true d.table (length q.catalogue.tables) (passes_at (λ (d : QuantDef). nat_lt d.table (length q.catalogue.tables)) q.quants n d formed.tables at)
+
 -- the tables of any quantifiers are loaded where each of the catalogue is
 pub quantifiers_loaded : (q : Query) → WellFormedQuery q → (tables : Tables) (quants : ℕ) → AreAllLoaded q.catalogue tables → AreLoaded q tables quants
-quantifiers_loaded q formed tables quants all n in_set d at =
-    all d.table (ltb-true d.table (length q.catalogue.tables) (passes_at (λ (d : QuantDef). nat_lt d.table (length q.catalogue.tables)) q.quants n d formed.tables at))
+quantifiers_loaded q formed tables quants all n in_set d at = all d.table (quantifier_below q formed n d at)
