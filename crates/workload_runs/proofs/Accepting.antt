@@ -1,4 +1,4 @@
--- Reading the texts of a workload fails only where memory is wanting.
+-- Reading the texts of a workload fails only where memory runs out.
 use Rattle.std.proofs.Common.{◌≡◌, ℕ, suc, ◌+◌, List, [], ◌∷◌, length, Ok, Err, refl, ap, sym, ◌∙◌, subst}
 use Rattle.std.proofs.lemmas.List.{length-map}
 use Rattle.star_model.specs.Selectivity.{selects_of, weighed}
@@ -106,14 +106,14 @@ query_read c text is (query_fault.TypeClash k) read = absurd (is.accepted.clear 
 pub short_as : (text : List ℕ) → text ≡ rules_text → IsShort text
 short_as text is = subst IsShort (sym is) short_rules
 
-pub rules_wanting : (text : List ℕ) → text ≡ rules_text → (fault : RuleFault) → of_rules.ReadsRules text (Err fault) → fault ≡ rule_fault.Memory
-rules_wanting text is fault read = rules_read fault (subst (λ t. of_rules.ReadsRules t (Err fault)) is read)
+pub rules_memory : (text : List ℕ) → text ≡ rules_text → (fault : RuleFault) → of_rules.ReadsRules text (Err fault) → fault ≡ rule_fault.Memory
+rules_memory text is fault read = rules_read fault (subst (λ t. of_rules.ReadsRules t (Err fault)) is read)
 
 pub rules_are : (text : List ℕ) → text ≡ rules_text → (rules : RuleFile) → of_rules.ReadsRules text (Ok rules) → rules ≡ generator_rules
 rules_are text is rules read = one_rule_file text rules generator_rules read.spells (subst (λ t. SpellsRules t generator_rules) (sym is) spells_rules)
 
-pub check_wanting : (rules : RuleFile) → rules ≡ generator_rules → (fault : RuleFault) → Checks rules (Err fault) → fault ≡ rule_fault.Memory
-check_wanting rules is fault checks = rules_checked fault (subst (λ r. Checks r (Err fault)) is checks)
+pub check_memory : (rules : RuleFile) → rules ≡ generator_rules → (fault : RuleFault) → Checks rules (Err fault) → fault ≡ rule_fault.Memory
+check_memory rules is fault checks = rules_checked fault (subst (λ r. Checks r (Err fault)) is checks)
 
 pub formed_as : (rules : RuleFile) → rules ≡ generator_rules → WellFormedRules rules
 formed_as rules is = subst WellFormedRules (sym is) formed_rules

@@ -72,10 +72,10 @@ module _ (c : Catalogue) (all : List Records) where
     pub count : length loaded ≡ place
     pub same_length : length left ≡ length all
     pub before : (n : ℕ) (records : Records) → n < place → slice_get all n ≡ Some records → IsLoadedAt loaded n records
-    pub behind : (n : ℕ) → place ≤ n → slice_get left n ≡ slice_get all n
+    pub left_there : (n : ℕ) → place ≤ n → slice_get left n ≡ slice_get all n
 
   pub none_yet : CameTo all [] 0
-  none_yet = record { count = refl; same_length = refl; before = λ n records less at. absurd (omega (arith, less)); behind = λ n least. refl }
+  none_yet = record { count = refl; same_length = refl; before = λ n records less at. absurd (omega (arith, less)); left_there = λ n least. refl }
 
   pub one_more : (left : List Records) (loaded : List (Option (List (List Value)))) (place : ℕ) (own : Records) (rows : List (List Value)) → CameTo left loaded place
       → slice_get left place ≡ Some own → table_rows c place own ≡ Some rows
@@ -94,7 +94,7 @@ module _ (c : Catalogue) (all : List Records) where
               record { rows = was.rows; at = get_before loaded (Some rows) n (omega (arith, old, counted)) ∙ was.at; are = was.are }
               )
           | inr new ↦ (
-              let own_is : own ≡ records = some_same (sym at ∙ (came.behind place (omega arith) ∙ (ap (λ m. slice_get all m) (sym new) ∙ here))) in
+              let own_is : own ≡ records = some_same (sym at ∙ (came.left_there place (omega arith) ∙ (ap (λ m. slice_get all m) (sym new) ∙ here))) in
               record {
                 rows = rows;
                 at = ap (λ m. slice_get (loaded ++ Some rows ∷ []) m) (new ∙ sym counted) ∙ get_here loaded (Some rows);
@@ -102,7 +102,7 @@ module _ (c : Catalogue) (all : List Records) where
               }
               )
         ];
-        behind = λ n least. get_after left place n [] (omega (arith, least)) ∙ came.behind n (omega (arith, least));
+        left_there = λ n least. get_after left place n [] (omega (arith, least)) ∙ came.left_there n (omega (arith, least));
       }
     where
       old_or_new : (n place : ℕ) → n < place + 1 → (n < place) ⊎ (n ≡ place)
@@ -114,7 +114,7 @@ module _ (c : Catalogue) (all : List Records) where
   -- the records that are still there at this place are its own
   pub own_records : (left : List Records) (loaded : List (Option (List (List Value)))) (place : ℕ) (own : Records) → CameTo left loaded place → HoldRows c all
       → slice_get left place ≡ Some own → HoldsRows c place own
-  own_records left loaded place own came held at = held place own (sym (came.behind place (omega arith)) ∙ at)
+  own_records left loaded place own came held at = held place own (sym (came.left_there place (omega arith)) ∙ at)
 
   pub rows_are : (left : List Records) (loaded : List (Option (List (List Value)))) (place : ℕ) → CameTo left loaded place → length all ≤ place
       → AreRows c all (map (λ table. unwrap_or table []) loaded)

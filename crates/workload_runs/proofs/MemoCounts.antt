@@ -65,8 +65,8 @@ own_plans (t ∷ memo) apart g plans in_ = elim (head_or_further t (g, plans) me
     at b = option_map (λ (s : GoalSet). s.1) (cond b (Some t) (find (λ (s : GoalSet). same_goal g s.0) memo))
 
     first : (b : Bool) → b ≡ true → t.1 ≡ plans → at b ≡ Some plans
-    first true told is = ap (λ l. Some l) is
-    first false told is = cc
+    first true so is = ap (λ l. Some l) is
+    first false so is = cc
 
     then : (b : Bool) → same_goal g t.0 ≡ b → same_goal t.0 g ≡ false → plans_at memo g ≡ Some plans → at b ≡ Some plans
     then true is other found =
@@ -109,11 +109,11 @@ own_set memo apart place g at = go (slice_get memo place) refl at where
 abbrev pub count_of : List GoalSet → ℕ
 count_of memo = sum_by (λ s. length s.1) memo
 
-count_behind : (n : ℕ) (memo : List GoalSet) → fold (λ a s. a + length s.1) n memo ≡ n + count_of memo
-count_behind n [] = omega arith
-count_behind n (s ∷ memo) =
-    let all : fold (λ a s. a + length s.1) n (s ∷ memo) ≡ (n + length s.1) + count_of memo = count_behind (n + length s.1) memo in
-    let own : count_of (s ∷ memo) ≡ (0 + length s.1) + count_of memo = count_behind (0 + length s.1) memo in
+count_from : (n : ℕ) (memo : List GoalSet) → fold (λ a s. a + length s.1) n memo ≡ n + count_of memo
+count_from n [] = omega arith
+count_from n (s ∷ memo) =
+    let all : fold (λ a s. a + length s.1) n (s ∷ memo) ≡ (n + length s.1) + count_of memo = count_from (n + length s.1) memo in
+    let own : count_of (s ∷ memo) ≡ (0 + length s.1) + count_of memo = count_from (0 + length s.1) memo in
     omega (arith, all, own)
 
 pub one_set_more : (memo : List GoalSet) (place : ℕ) (plans : ℕ) → option_map (λ (s : GoalSet). length s.1) (slice_get memo place) ≡ Some plans
@@ -124,8 +124,8 @@ one_set_more (s ∷ memo) (suc place) plans at =
     let rest = one_set_more memo place plans at in
     let next : suc place + 1 ≡ suc (place + 1) = omega arith in
     let all : count_of (take (suc place + 1) (s ∷ memo)) ≡ (0 + length s.1) + count_of (take (place + 1) memo) =
-    ap (λ n. count_of (take n (s ∷ memo))) next ∙ count_behind (0 + length s.1) (take (place + 1) memo) in
-    let before : count_of (take (suc place) (s ∷ memo)) ≡ (0 + length s.1) + count_of (take place memo) = count_behind (0 + length s.1) (take place memo) in
+    ap (λ n. count_of (take n (s ∷ memo))) next ∙ count_from (0 + length s.1) (take (place + 1) memo) in
+    let before : count_of (take (suc place) (s ∷ memo)) ≡ (0 + length s.1) + count_of (take place memo) = count_from (0 + length s.1) (take place memo) in
     omega (arith, rest, all, before)
 
 -- a goal's set, as the goal with each vector

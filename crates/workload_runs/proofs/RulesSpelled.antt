@@ -107,9 +107,9 @@ abbrev follow : ℕ → List FormulaDef → Bool
 follow n [] = true
 follow n (d ∷ later) = stands_at n d && follow (n + 1) later
 
-abbrev number_behind : ℕ → List FormulaDef → ℕ
-number_behind n [] = n
-number_behind n (d ∷ later) = number_behind (n + 1) later
+abbrev number_after : ℕ → List FormulaDef → ℕ
+number_after n [] = n
+number_after n (d ∷ later) = number_after (n + 1) later
 
 formula_spelled : (n : ℕ) (d : FormulaDef) → stands_at n d ≡ true → SpellsFormulaDef 1 n (formula_def_lexemes d) d
 formula_spelled n d stands =
@@ -124,13 +124,13 @@ abbrev star_statement : StarDef → RuleStatement
 star_statement s = record { lexemes = star_lexemes s; defines = OfStar s }
 
 formulas_define : (n : ℕ) (fs : List FormulaDef) (later : List (List Lexeme)) (ss : List StarDef) → follow n fs ≡ true
-    → SpellsDefinitions 1 (number_behind n fs) later [] [] ss → SpellsDefinitions 1 n (map formula_def_lexemes fs ++ later) [] fs ss
+    → SpellsDefinitions 1 (number_after n fs) later [] [] ss → SpellsDefinitions 1 n (map formula_def_lexemes fs ++ later) [] fs ss
 formulas_define n [] later ss stand define = define
 formulas_define n (d ∷ fs) later ss stand define =
     let parts = and_parts (stands_at n d) (follow (n + 1) fs) stand in
     spec.formula (formula_spelled n d parts.0) (formulas_define (n + 1) fs later ss parts.1 define)
 
-formulas_are_spelled : (n : ℕ) (fs : List FormulaDef) (later : List RuleStatement) → follow n fs ≡ true → AreSpelled 1 (number_behind n fs) later
+formulas_are_spelled : (n : ℕ) (fs : List FormulaDef) (later : List RuleStatement) → follow n fs ≡ true → AreSpelled 1 (number_after n fs) later
     → AreSpelled 1 n (map formula_statement fs ++ later)
 formulas_are_spelled n [] later stand spelled = spelled
 formulas_are_spelled n (d ∷ fs) later stand spelled =
@@ -141,9 +141,9 @@ all_stand : follow 1 formulas ≡ true
 unfolding formulas nodes
 all_stand = refl
 
-behind_all : number_behind 1 formulas ≡ 23
+after_all : number_after 1 formulas ≡ 23
 unfolding formulas
-behind_all = refl
+after_all = refl
 
 -- ---- the text
 
@@ -167,7 +167,7 @@ are_statements = record { all_tokens = refl; are = refl }
 define : SpellsDefinitions 1 1 (map formula_def_lexemes formulas ++ star_lexemes_of) [] formulas generator_rules.stars
 define =
     formulas_define 1 formulas star_lexemes_of generator_rules.stars all_stand
-    (subst (λ n. SpellsDefinitions 1 n star_lexemes_of [] [] generator_rules.stars) (sym behind_all)
+    (subst (λ n. SpellsDefinitions 1 n star_lexemes_of [] [] generator_rules.stars) (sym after_all)
     (spec.star access_root_spelled (spec.star join_root_spelled (spec.star both_spelled spec.none))))
 
 pub spells_rules : SpellsRules rules_text generator_rules
@@ -188,5 +188,5 @@ says_rules = record {
   spelled =
       subst (λ n. AreSpelled n 1 generator_statements) (sym version_one)
       (formulas_are_spelled 1 formulas star_statements all_stand
-      (subst (λ n. AreSpelled 1 n star_statements) (sym behind_all) (access_root_spelled, (join_root_spelled, (both_spelled, tt)))));
+      (subst (λ n. AreSpelled 1 n star_statements) (sym after_all) (access_root_spelled, (join_root_spelled, (both_spelled, tt)))));
 }

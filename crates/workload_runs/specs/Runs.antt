@@ -17,7 +17,7 @@ pub record RunsTo (made : Workload) (tally : Option Tally) : Type 0 where
   pub says : Says made rules query
   pub numbers : ComesTo rules query made.tables tally
 
--- what the run answers; want of memory may come at any seed, where there is a workload of the size
+-- what the run answers; memory may run out at any seed, where there is a workload of the size
 abbrev pub Runs : ℕ → ℕ → Result (Option Tally) GenFault → Type 0
 Runs seed size (Ok tally) = IsSize size × RunsTo (workload seed size) tally
 Runs seed size (Err Size) = IsSize size → ⊥

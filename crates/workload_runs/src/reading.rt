@@ -1,5 +1,5 @@
 // What the texts of a workload say. None of them has a fault, so reading them fails only where
-// memory is wanting.
+// memory runs out.
 
 ghost use Rattle.std.specs.Prelude.{◌≡◌, IfOk};
 ghost use Rattle.star_model.specs.WellFormed.{WellFormedCatalogue};
