@@ -39,6 +39,7 @@ few_pieces commands.Check told given ending pieces has = let n : length pieces �
 few_pieces commands.Plan told given ending pieces has = let n : length pieces ≡ 1 = counted pieces has.more [] has.text has.are has.further in omega arith
 few_pieces commands.Frontier told given ending pieces has = let n : length pieces ≡ 1 = counted pieces has.more [] has.text has.are has.further in omega arith
 few_pieces commands.Verify told given ending pieces has = let n : length pieces ≡ 1 = counted pieces has.more [] has.text has.are has.further in omega arith
+few_pieces (commands.Gen seed size) told given ending pieces has = let n : length pieces ≡ 1 = counted pieces has.more [] has.text has.are has.further in omega arith
 
 put_few : (command : Command) (told : Option Files) (words : CommandLine) (ending : Ending) (pieces : List (List ℕ)) (a b : ℕ) → Puts command told words ending pieces
     → RoseAtMost (length pieces) a b → RoseAtMost (most_puts command) a b
@@ -162,4 +163,8 @@ run_calls words (Some commands.Frontier) shelf shelf' result is composed = recor
 run_calls words (Some commands.Verify) shelf shelf' result is composed = record {
   tables = λ given saying told. let e : Some commands.Verify ≡ Some commands.Run = is_run words shelf given saying (Some commands.Verify) is told in absurd cc;
   unplanned = λ given saying told none. let e : Some commands.Verify ≡ Some commands.Run = is_run words shelf given saying (Some commands.Verify) is told in absurd cc;
+}
+run_calls words (Some (commands.Gen seed size)) shelf shelf' result is composed = record {
+  tables = λ given saying told. let e : Some (commands.Gen seed size) ≡ Some commands.Run = is_run words shelf given saying (Some (commands.Gen seed size)) is told in absurd cc;
+  unplanned = λ given saying told none. let e : Some (commands.Gen seed size) ≡ Some commands.Run = is_run words shelf given saying (Some (commands.Gen seed size)) is told in absurd cc;
 }

@@ -134,21 +134,23 @@ same_answer command files requests given saying ending pieces held says a =
     (text, subst (λ (x : Saying command). AnswerText command x ending text) (one_reading command given is.saying saying says' says) is.answer)
 
 -- what has to be put where the command is done
-done_ends : (command : Command) (given : List Given) (saying : Saying command) (text : List ℕ) → Says command given saying → AnswerText command saying endings.Done text → Ends command saying Done
+pub done_ends : (command : Command) (given : List Given) (saying : Saying command) (text : List ℕ) → Says command given saying → AnswerText command saying endings.Done text → Ends command saying Done
 done_ends commands.Check given rules text says answer = refl
 done_ends commands.Plan given saying text says answer = inl (refl, answer.0, answer.1, answer.2.root)
 done_ends commands.Run given saying text says answer = inl (refl, answer.0, answer.1, answer.2.root)
 done_ends commands.Frontier given saying text says answer =
     let root = some_listed saying.1 saying.0 says.formed says.of_rules.accepted answer.0 answer.1 answer.2 in inl (refl, root.0, root.1, root.2)
 done_ends commands.Verify given saying text says answer = inl (refl, answer.1, answer.2)
+done_ends (commands.Gen seed size) given saying text says answer = let least = answer.1.cost in inl (refl, least.0, least.1, least.2.root)
 
 -- and where there is no plan
-none_ends : (command : Command) (saying : Saying command) (text : List ℕ) → AnswerText command saying endings.NoPlan text → Ends command saying NoPlan
+pub none_ends : (command : Command) (saying : Saying command) (text : List ℕ) → AnswerText command saying endings.NoPlan text → Ends command saying NoPlan
 none_ends commands.Check rules text answer = let e : endings.NoPlan ≡ endings.Done = answer.0 in absurd cc
 none_ends commands.Plan saying text answer = inr (refl, answer.0)
 none_ends commands.Run saying text answer = inr (refl, answer.0)
 none_ends commands.Frontier saying text answer = inr (refl, answer.0)
 none_ends commands.Verify saying text answer = let e : endings.NoPlan ≡ endings.Done = answer.0 in absurd cc
+none_ends (commands.Gen seed size) saying text answer = inr (refl, answer.0)
 
 -- and where the command denies what it is for
 denied_ends : (command : Command) (saying : Saying command) (line : List ℕ) → Denied command saying line → Ends command saying NotDerived
@@ -157,6 +159,7 @@ denied_ends commands.Plan saying line denied = absurd denied
 denied_ends commands.Run saying line denied = absurd denied
 denied_ends commands.Frontier saying line denied = absurd denied
 denied_ends commands.Verify saying line denied = inr (refl, denied.no_root)
+denied_ends (commands.Gen seed size) saying line denied = absurd denied
 
 -- what is denied of told texts is denied of what they say
 same_denial : (command : Command) (files : Files) (requests : List Request) (given other : List Given) (saying : Saying command) (line : List ℕ)
@@ -181,6 +184,7 @@ unread_rose commands.Check shelf shelf' requests line (inr u) = absurd u
 unread_rose commands.Plan shelf shelf' requests line (inr u) = absurd u
 unread_rose commands.Frontier shelf shelf' requests line (inr u) = absurd u
 unread_rose commands.Verify shelf shelf' requests line (inr u) = absurd u
+unread_rose (commands.Gen seed size) shelf shelf' requests line (inr u) = absurd u
 
 -- what told texts say is one case
 pub same_case : (files : Files) (requests : List Request) (given : List Given) (saying : Saying commands.Run) (rules : RuleFile) (query : QueryTree)
@@ -210,6 +214,7 @@ no_table_refused commands.Check words shelf shelf' line given saying told holds 
 no_table_refused commands.Plan words shelf shelf' line given saying told holds t = t
 no_table_refused commands.Frontier words shelf shelf' line given saying told holds t = t
 no_table_refused commands.Verify words shelf shelf' line given saying told holds t = t
+no_table_refused (commands.Gen seed size) words shelf shelf' line given saying told holds t = t
 
 pub complete : (status : Status) (words : CommandLine) (shelf shelf' : ShelfState) (out out' err err' : SinkState) → Answered status words shelf shelf' out out' err err'
     → Complete status words shelf shelf' out out'
@@ -270,6 +275,7 @@ stop_no_table commands.Check words shelf shelf' place this earlier bytes line li
 stop_no_table commands.Plan words shelf shelf' place this earlier bytes line line' st is t = t
 stop_no_table commands.Frontier words shelf shelf' place this earlier bytes line line' st is t = t
 stop_no_table commands.Verify words shelf shelf' place this earlier bytes line line' st is t = t
+stop_no_table (commands.Gen seed size) words shelf shelf' place this earlier bytes line line' st is t = t
 
 refused_same : (kind : TextKind) (words : CommandLine) (shelf shelf' : ShelfState) (err err' : SinkState) (place : ℕ) (this : Request) (earlier : List Given) (bytes line line' : List ℕ)
     → (st : StopTold words shelf place this earlier bytes line) → RefusedAt shelf shelf' (requests_of st.command words) kind line' → LinePut err err' line'

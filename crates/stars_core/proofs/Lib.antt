@@ -2,6 +2,7 @@ mod Words
 pub mod FaultLaws
 pub mod Along
 pub mod Causes
+pub mod Failing
 mod Emitting
 mod Endings
 mod PlanTexts
@@ -15,6 +16,8 @@ pub mod TablesExactly
 pub mod Says
 pub mod Cases
 pub mod OneFile
+pub mod WorkloadRuns
+pub mod GenEnds
 mod DoneSays
 mod Verdicts
 pub mod Laws

@@ -13,7 +13,8 @@ use Rattle.catalogue.proofs.Laws.{one_catalogue}
 use Rattle.query_graph.proofs.Laws.{one_query, keeps_catalogue}
 use Rattle.derivation_reading.proofs.Laws.{one_derivation}
 use Rattle.stars_core.specs.declared.command.Command.{Command}
-use Rattle.stars_core.specs.declared.command.Command.TheVariants.{Check, Plan, Run, Frontier, Verify}
+use Rattle.workload_gen.specs.Workloads.{workload}
+use Rattle.stars_core.specs.declared.command.Command.TheVariants.{Check, Plan, Run, Frontier, Verify, Gen}
 use Rattle.stars_core.specs.declared.status.Ending.{Ending}
 use Rattle.stars_core.specs.declared.status.Ending.TheVariants as endings
 use Rattle.stars_core.specs.Given.{Given}
@@ -68,6 +69,8 @@ one_reading Frontier given a b p p' = same_pair a b (one_case (text_at given 0) 
 one_reading Verify given a b p p' =
     same_three a b (one_case (text_at given 0) (text_at given 1) (text_at given 2) a.0 b.0 a.1 b.1 p.0 p'.0)
     (one_derivation (text_at given 3) a.2 b.2 p.1 p'.1)
+one_reading (Gen seed size) given a b p p' =
+    let made = workload seed size in same_pair a b (one_case made.rules made.catalogue made.query a.0 b.0 a.1 b.1 p p')
 
 -- the text of a plan spells its derivation
 pub spelled_plan : (r : List ℕ) (rules : RuleFile) (query : QueryTree) → SaysRules r rules → (ending : Ending) (text : List ℕ) → PlanText rules query ending text

@@ -28,10 +28,15 @@ use Rattle.star_syntax.specs.Faults as rule_files
 use Rattle.star_syntax.proofs.Laws as rule_laws
 use Rattle.star_check.proofs.Laws as check_laws
 use Rattle.stars_core.specs.declared.command.Command.{Command}
-use Rattle.stars_core.specs.declared.command.Command.TheVariants.{Check, Plan, Run, Frontier, Verify}
+use Rattle.stars_core.specs.declared.command.Command.TheVariants.{Check, Plan, Run, Frontier, Verify, Gen}
 use Rattle.stars_core.specs.declared.refusal.TextKind.{TextKind}
 use Rattle.stars_core.specs.declared.refusal.TextKind.TheVariants.{Rules, Catalogue, Query, Derivation}
-use Rattle.stars_core.specs.CommandLine.{CommandLine, requests_of, three_requests, four_requests}
+use Rattle.workload_gen.specs.Tables.{drawn_tables}
+use Rattle.workload_gen.specs.Trees.{query_tree}
+use Rattle.workload_gen.specs.Workloads.{workload}
+use Rattle.workload_runs.specs.RulesTree.{generator_rules}
+use Rattle.workload_runs.proofs.Laws.{workload_says}
+use Rattle.stars_core.specs.CommandLine.{CommandLine, requests_of, three_requests, four_requests, HasSize}
 use Rattle.stars_core.specs.Faults.{Stops, Passes, Verdict, Accepted, Stopped, Judged, PassAll}
 use Rattle.stars_core.specs.Given.{Given, Over, catalogue_in}
 use Rattle.stars_core.specs.Judging.{RulesPass, CataloguePasses, QueryPasses, DerivationPasses, StopsAlways, StopsOver}
@@ -40,6 +45,7 @@ use Rattle.stars_core.specs.Saying.{Saying, Says, SaysCase, three, four}
 use Rattle.stars_core.specs.Shelves.{HeldAs}
 use Rattle.stars_core.proofs.FaultLaws.{passes, long_stops, misread_stops, rejected_stops, not_misread_rules, rules_pass, catalogue_passes, query_passes, derivation_passes, stopped_passes}
 use Rattle.stars_core.proofs.Says.{says_rules, says_case}
+use Rattle.stars_core.proofs.WorkloadRuns.{workload_case}
 
 -- ---- each fault that a text has is told by a line
 
@@ -248,10 +254,13 @@ four_say told rules catalogue query derivation (a ∷ b ∷ c ∷ d ∷ []) held
     ((case.0, case.1, tree.0), (case.2, tree.1.read.spells))
 
 -- texts that a command asks for, where they are accepted
-pub accepted_texts_say : (told : Option Files) (command : Command) (words : CommandLine) (given : List Given) → HeldAs told (requests_of command words) given → PassAll [] given
+pub accepted_texts_say : (told : Option Files) (command : Command) (words : CommandLine) (given : List Given) → HasSize command → HeldAs told (requests_of command words) given → PassAll [] given
     → (saying : Saying command) × Says command given saying
-accepted_texts_say told Check words given held all = one_says told _ given held all
-accepted_texts_say told Plan words given held all = case_says given (three_say told _ _ _ given held all)
-accepted_texts_say told Run words given held all = case_says given (three_say told _ _ _ given held all)
-accepted_texts_say told Frontier words given held all = case_says given (three_say told _ _ _ given held all)
-accepted_texts_say told Verify words given held all = four_say told _ _ _ _ given held all
+accepted_texts_say told Check words given sized held all = one_says told _ given held all
+accepted_texts_say told Plan words given sized held all = case_says given (three_say told _ _ _ given held all)
+accepted_texts_say told Run words given sized held all = case_says given (three_say told _ _ _ given held all)
+accepted_texts_say told Frontier words given sized held all = case_says given (three_say told _ _ _ given held all)
+accepted_texts_say told Verify words given sized held all = four_say told _ _ _ _ given held all
+accepted_texts_say told (Gen seed size) words given sized held all =
+    let says = workload_says seed size sized in
+    ((generator_rules, query_tree (drawn_tables seed size)), workload_case (workload seed size) generator_rules (query_tree (drawn_tables seed size)) says)

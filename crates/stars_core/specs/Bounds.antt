@@ -1,7 +1,7 @@
 -- How often a run calls the shelf, and puts to the first sink.
 use Rattle.std.specs.Prelude.{◌+◌, ℕ, length, Option, None, Some}
 use Rattle.stars_core.specs.declared.command.Command.{Command}
-use Rattle.stars_core.specs.declared.command.Command.TheVariants.{Check, Plan, Run, Frontier, Verify}
+use Rattle.stars_core.specs.declared.command.Command.TheVariants.{Check, Plan, Run, Frontier, Verify, Gen}
 use Rattle.stars_core.specs.CommandLine.{CommandLine, requests_of}
 
 -- how many tables a command asks for at most, behind its files
@@ -11,6 +11,7 @@ tables_by Plan = 0
 tables_by Run = 12
 tables_by Frontier = 0
 tables_by Verify = 0
+tables_by (Gen seed size) = 0
 
 -- how many files a command asks for at most, tables among them
 abbrev pub most_calls : Command → CommandLine → ℕ
@@ -27,6 +28,7 @@ most_puts Plan = 1
 most_puts Run = 2
 most_puts Frontier = 1
 most_puts Verify = 1
+most_puts (Gen seed size) = 1
 
 -- where the words are no command, nothing is put
 abbrev pub puts_of : Option Command → ℕ

@@ -2,6 +2,7 @@
 use Rattle.std.specs.Prelude.{◌≡◌, ◌⊎◌, ℕ, List, [], ◌++◌, Option, None, Some, Result, Ok, Err, string_bytes}
 use Rattle.sb_outside.specs.Shelf.{Files, ShelfState, GoesBy, NoFault}
 use Rattle.stars_core.specs.declared.command.Command.{Command}
+use Rattle.stars_core.specs.declared.command.Command.TheVariants.{Gen}
 use Rattle.stars_core.specs.declared.refusal.Refusal.{Refusal}
 use Rattle.stars_core.specs.declared.refusal.Refusal.TheVariants.{Usage, Unread, Refused, Table, NotDerived, Memory}
 use Rattle.stars_core.specs.declared.status.Ending.{Ending}
@@ -47,6 +48,10 @@ Puts command told words ending pieces = IsAnswered command told (requests_of com
 abbrev pub Ran : Command → ShelfState → ShelfState → List Request → Result Pieces Refusal → Type 0
 Ran command before now requests (Ok pieces) = NoFault before now × IsAnswered command before.held requests pieces.ending (pieces_of pieces)
 Ran command before now requests (Err refusal) = RanInto command before now requests refusal
+
+-- the run of a workload was made of nothing on the shelf, whatever this tells, or why not
+abbrev pub AllRan : ℕ → ℕ → Result Pieces Refusal → Type 0
+AllRan seed size result = (state : ShelfState) → Ran (Gen seed size) state state [] result
 
 -- what the words made of the shelf
 abbrev pub Composed : ShelfState → ShelfState → CommandLine → Option Command → Result Pieces Refusal → Type 0

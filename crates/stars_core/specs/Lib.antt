@@ -8,6 +8,7 @@ pub mod Judging
 pub mod Plan
 pub mod Frontier
 pub mod Verified
+pub mod Tallies
 pub mod Saying
 pub mod Pieces
 pub mod Bounds
@@ -17,4 +18,5 @@ pub mod Told
 pub mod Judged
 pub mod Shelves
 pub mod Running
+pub mod Generating
 pub mod Composing

@@ -7,7 +7,7 @@ use Rattle.star_model.specs.declared.query.Query.{Query as QueryTree}
 use Rattle.table_taking.specs.QueryTables.{AreRows}
 use Rattle.row_answers.specs.RowsTexts.{RowsText}
 use Rattle.stars_core.specs.declared.command.Command.{Command}
-use Rattle.stars_core.specs.declared.command.Command.TheVariants.{Check, Plan, Run, Frontier, Verify}
+use Rattle.stars_core.specs.declared.command.Command.TheVariants.{Check, Plan, Run, Frontier, Verify, Gen}
 use Rattle.stars_core.specs.declared.status.Ending.{Ending}
 use Rattle.stars_core.specs.declared.status.Ending.TheVariants.{Done, NoPlan}
 use Rattle.stars_core.specs.declared.pieces.Pieces.{Pieces}
@@ -30,6 +30,7 @@ Further Check told saying ending more = more ≡ []
 Further Plan told saying ending more = more ≡ []
 Further Frontier told saying ending more = more ≡ []
 Further Verify told saying ending more = more ≡ []
+Further (Gen seed size) told saying ending more = more ≡ []
 
 -- the texts say something, and these are the pieces of the command's answer
 pub record HasPieces (command : Command) (told : Option Files) (given : List Given) (ending : Ending)

@@ -6,7 +6,7 @@ use Rattle.star_model.specs.declared.query.Query.{Query as QueryTree}
 use Rattle.table_taking.specs.QueryTables.{tables_of}
 use Rattle.table_taking.specs.Taking as tables
 use Rattle.stars_core.specs.declared.command.Command.{Command}
-use Rattle.stars_core.specs.declared.command.Command.TheVariants.{Check, Plan, Run, Frontier, Verify}
+use Rattle.stars_core.specs.declared.command.Command.TheVariants.{Check, Plan, Run, Frontier, Verify, Gen}
 use Rattle.stars_core.specs.declared.refusal.Refusal.{Refusal}
 use Rattle.stars_core.specs.declared.refusal.Refusal.TheVariants as refusals
 use Rattle.stars_core.specs.declared.status.Ending.{Ending}
@@ -47,6 +47,7 @@ TableUnreadAt Check before now requests line = ⊥
 TableUnreadAt Plan before now requests line = ⊥
 TableUnreadAt Frontier before now requests line = ⊥
 TableUnreadAt Verify before now requests line = ⊥
+TableUnreadAt (Gen seed size) before now requests line = ⊥
 
 -- A table of the query is refused with this line; the tables before it have rows.
 abbrev pub TableRefusedAt : Command → ShelfState → ShelfState → List Request → List ℕ → Type 0
@@ -56,6 +57,7 @@ TableRefusedAt Check before now requests line = ⊥
 TableRefusedAt Plan before now requests line = ⊥
 TableRefusedAt Frontier before now requests line = ⊥
 TableRefusedAt Verify before now requests line = ⊥
+TableRefusedAt (Gen seed size) before now requests line = ⊥
 
 -- A run makes three calls, and one more for each table of the query where this has a plan.
 abbrev pub FewCalls : Command → ShelfState → ShelfState → List Request → Type 0
@@ -67,6 +69,7 @@ FewCalls Check before now requests = Unit {0}
 FewCalls Plan before now requests = Unit {0}
 FewCalls Frontier before now requests = Unit {0}
 FewCalls Verify before now requests = Unit {0}
+FewCalls (Gen seed size) before now requests = Unit {0}
 
 -- ---- behind the texts
 

@@ -16,8 +16,10 @@ use Rattle.rule_grammar.specs.RuleLimits.{KeepsLexemeLimits}
 use Rattle.derivation_reading.specs.Derivations.{SpellsDerivation, canonical}
 use Rattle.catalogue.specs.Catalogues.{SpellsCatalogue}
 use Rattle.query_graph.specs.Queries.{SpellsQuery}
+use Rattle.workload_gen.specs.Workloads.{workload}
+use Rattle.workload_gen.specs.declared.workload.Workload.{Workload}
 use Rattle.stars_core.specs.declared.command.Command.{Command}
-use Rattle.stars_core.specs.declared.command.Command.TheVariants.{Check, Plan, Run, Frontier, Verify}
+use Rattle.stars_core.specs.declared.command.Command.TheVariants.{Check, Plan, Run, Frontier, Verify, Gen}
 use Rattle.stars_core.specs.declared.refusal.TextKind.TheVariants.{Rules, Catalogue, Query, Derivation}
 use Rattle.stars_core.specs.declared.status.Ending.{Ending}
 use Rattle.stars_core.specs.declared.status.Ending.TheVariants.{Done, NoPlan}
@@ -25,6 +27,7 @@ use Rattle.stars_core.specs.Given.{Given}
 use Rattle.stars_core.specs.Plan.{PlanText, numbers}
 use Rattle.stars_core.specs.Frontier.{FrontierText}
 use Rattle.stars_core.specs.Verified.{VerifiedText, IsNotDerived}
+use Rattle.stars_core.specs.Tallies.{TallyText}
 
 -- the bytes of the text at this place
 abbrev pub text_at : List Given → ℕ → List ℕ
@@ -54,6 +57,10 @@ pub record SaysCase (r c q : List ℕ) (rules : RuleFile) (query : QueryTree) : 
   pub by_rules : query ≡ weighed (selects_of rules) spelled
   pub formed : WellFormedQuery query
 
+-- the texts of a workload say these rules and this query
+abbrev pub SaysWorkload : Workload → RuleFile → QueryTree → Type 0
+SaysWorkload made rules query = SaysCase made.rules made.catalogue made.query rules query
+
 -- what is said to each command
 abbrev pub Saying : Command → Type 0
 Saying Check = RuleFile
@@ -61,8 +68,9 @@ Saying Plan = RuleFile × QueryTree
 Saying Run = RuleFile × QueryTree
 Saying Frontier = RuleFile × QueryTree
 Saying Verify = RuleFile × QueryTree × Deriv
+Saying (Gen seed size) = RuleFile × QueryTree
 
--- the texts say this to the command
+-- the texts say this to the command; to one for a workload, those that the workload has
 abbrev pub Says : (command : Command) → List Given → Saying command → Type 0
 Says Check given rules = SaysRules (text_at given 0) rules
 Says Plan given saying = SaysCase (text_at given 0) (text_at given 1) (text_at given 2) saying.0 saying.1
@@ -70,6 +78,7 @@ Says Run given saying = SaysCase (text_at given 0) (text_at given 1) (text_at gi
 Says Frontier given saying = SaysCase (text_at given 0) (text_at given 1) (text_at given 2) saying.0 saying.1
 Says Verify given saying =
     SaysCase (text_at given 0) (text_at given 1) (text_at given 2) saying.0 saying.1 × SpellsDerivation (text_at given 3) saying.2
+Says (Gen seed size) given saying = SaysWorkload (workload seed size) saying.0 saying.1
 
 -- the text of rules that are accepted
 abbrev pub RulesText : RuleFile → Ending → List ℕ → Type 0
@@ -87,6 +96,7 @@ AnswerText Plan saying ending text = SpelledPlan saying.0 saying.1 ending text
 AnswerText Run saying ending text = SpelledPlan saying.0 saying.1 ending text
 AnswerText Frontier saying ending text = FrontierText saying.0 saying.1 ending text
 AnswerText Verify saying ending text = VerifiedText saying.0 saying.1 saying.2 ending text
+AnswerText (Gen seed size) saying ending text = TallyText seed size saying.0 saying.1 ending text
 
 -- the texts say something, and this is the command's answer
 pub record IsAnswer (command : Command) (given : List Given) (ending : Ending) (text : List ℕ) : Type 0 where
@@ -101,6 +111,7 @@ Denied Plan saying line = ⊥
 Denied Run saying line = ⊥
 Denied Frontier saying line = ⊥
 Denied Verify saying line = IsNotDerived saying.0 saying.1 saying.2 line
+Denied (Gen seed size) saying line = ⊥
 
 -- the texts say something of which the command denies what it is for
 pub record IsDenied (command : Command) (given : List Given) (line : List ℕ) : Type 0 where

@@ -1,4 +1,4 @@
--- What a run comes to where the shelf tells what it holds.
+-- What a command comes to where the shelf tells what it holds.
 use Rattle.std.specs.Prelude.{◌≡◌, ◌≤◌, ◌+◌, ◌⊎◌, ℕ, List, [], length, take, slice_get, Some}
 use Rattle.sb_outside.specs.Counts.{Rose, RoseAtMost}
 use Rattle.sb_outside.specs.Shelf.{Files, ShelfState}
@@ -9,6 +9,7 @@ use Rattle.star_model.specs.declared.query.Query.{Query as QueryTree}
 use Rattle.star_model.specs.declared.derivations.Deriv.{Deriv}
 use Rattle.star_model.specs.declared.plans.Props.{Props}
 use Rattle.table_taking.specs.QueryTables.{tables_of}
+use Rattle.workload_gen.specs.Workloads.{workload}
 use Rattle.table_taking.specs.Told.{HoldsTables, FirstRefused}
 use Rattle.stars_core.specs.declared.command.Command.{Command}
 use Rattle.stars_core.specs.declared.command.Command.TheVariants as commands
@@ -19,7 +20,7 @@ use Rattle.stars_core.specs.Lines.{refused_status}
 use Rattle.stars_core.specs.Given.{Given}
 use Rattle.stars_core.specs.Faults.{Stops, PassAll}
 use Rattle.stars_core.specs.Plan.{HasPlan, HasNoPlan}
-use Rattle.stars_core.specs.Saying.{Saying, Says}
+use Rattle.stars_core.specs.Saying.{Saying, Says, SaysWorkload}
 use Rattle.stars_core.specs.Shelves.{HeldAs}
 use Rattle.stars_core.specs.Answers.{LinePut}
 
@@ -38,6 +39,7 @@ Ends commands.Frontier saying status = PlanEnds saying.0 saying.1 status
 Ends commands.Verify saying status =
     ((status ≡ Done) × (v : Props) × IsRoot saying.1 saying.0 saying.2 v)
     ⊎ ((status ≡ NotDerived) × ((v : Props) → IsRoot saying.1 saying.0 saying.2 v → ⊥))
+Ends (commands.Gen seed size) saying status = PlanEnds saying.0 saying.1 status
 
 -- all files of a command that the shelf tells, and what they say
 pub record AllTold (words : CommandLine) (shelf : ShelfState) (command : Command) (given : List Given) (saying : Saying command) : Type 0 where
@@ -55,6 +57,7 @@ TablesTold commands.Check files saying = Unit {0}
 TablesTold commands.Plan files saying = Unit {0}
 TablesTold commands.Frontier files saying = Unit {0}
 TablesTold commands.Verify files saying = Unit {0}
+TablesTold (commands.Gen seed size) files saying = Unit {0}
 
 -- Where all files are told and say something, its tables hold rows, and nothing fails, the command ends as it has to.
 abbrev pub Complete : Status → CommandLine → ShelfState → ShelfState → SinkState → SinkState → Type 0
@@ -62,6 +65,13 @@ Complete status words shelf shelf' out out' =
     (command : Command) (given : List Given) (saying : Saying command) → (told : AllTold words shelf command given saying)
     → TablesTold command told.files saying → (Rose shelf.faults shelf'.faults → ⊥) → (Rose out.faults out'.faults → ⊥)
     → (status ≡ Memory) ⊎ Ends command saying status
+
+-- A workload is run whatever the shelf tells: where the first sink doesn't fail, this ends as planning of its query has to.
+abbrev pub GenComplete : Status → CommandLine → SinkState → SinkState → Type 0
+GenComplete status words out out' =
+    (seed size : ℕ) (rules : RuleFile) (query : QueryTree) → command_of words ≡ Some (commands.Gen seed size)
+    → SaysWorkload (workload seed size) rules query → (Rose out.faults out'.faults → ⊥)
+    → (status ≡ Memory) ⊎ PlanEnds rules query status
 
 -- a told text that is stopped, after told texts that are accepted
 pub record StopTold (words : CommandLine) (shelf : ShelfState) (place : ℕ) (this : Request) (earlier : List Given) (bytes line : List ℕ) : Type 0 where

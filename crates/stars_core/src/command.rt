@@ -1,7 +1,9 @@
 // The command that the words of a command line give.
 ghost use Rattle.std.specs.Prelude.{◌≡◌, ◌+◌, ◌<◌, length, IfSome, string_bytes};
-ghost use Rattle.std.specs.List.{list_any};
-ghost use Rattle.stars_core.specs.CommandLine.{begins_dash, named, files_of, asking, listed, command_of, bytes_of, requests_of, word_at};
+ghost use Rattle.std.specs.Char.{is_ascii_digit};
+ghost use Rattle.std.specs.List.{list_any, list_all};
+ghost use Rattle.workload_gen.specs.Workloads.{IsSize};
+ghost use Rattle.stars_core.specs.CommandLine.{begins_dash, named, words_of, asking, seed_of, size_of, generating, HasSize, listed, command_of, bytes_of, word_at};
 
 /// A command of the program.
 #[derive(Clone, Copy, Debug, PartialEq, Eq)]
@@ -18,15 +20,24 @@ pub enum Command {
     /// `verify RULES CATALOGUE QUERY DERIVATION` puts the numbers of the derivation's plan, where
     /// it is one of the query by the rules.
     Verify,
+    /// `gen SEED SIZE` puts what planning and running the query of a generated workload comes to.
+    /// It asks for no file.
+    Gen {
+        /// What the workload's numbers are drawn from.
+        seed: u64,
+        /// How many tables the workload has: 1 to 8.
+        size: u8,
+    },
 }
 
 impl Command {
-    /// How many files it asks for, of which each has its name among the words.
-    pub fn files(self) -> usize
-        ensures { result ≡ files_of self }
+    /// How many words stand behind its name.
+    pub fn words(self) -> usize
+        ensures { result ≡ words_of self }
     {
         match self {
             Command::Check => 1,
+            Command::Gen { .. } => 2,
             Command::Plan | Command::Run | Command::Frontier => 3,
             Command::Verify => 4,
         }
@@ -39,8 +50,10 @@ fn begins_dash(word: &str) -> bool
     matches!(word.as_bytes(), [b'-', ..])
 }
 
+// The command of this name, of those that ask for files.
 fn named(word: &str) -> Option<Command>
-    ensures { result ≡ named word.now }
+    ensures value { result ≡ named word.now }
+    ensures sized { IfSome result HasSize }
 {
     if word == "check" {
         Some(Command::Check)
@@ -57,26 +70,68 @@ fn named(word: &str) -> Option<Command>
     }
 }
 
-// The command of a name, where it asks for so many files.
-fn asking(command: Option<Command>, names: usize) -> Option<Command>
-    ensures value { result ≡ asking command names }
-    ensures names { IfSome result (λ command. names ≡ files_of command) }
+// The command of a name, where so many words stand behind it.
+fn asking(command: Option<Command>, words: usize) -> Option<Command>
+    requires { IfSome command HasSize }
+    ensures value { result ≡ asking command words }
+    ensures words { IfSome result (λ command. words ≡ words_of command) }
+    ensures sized { IfSome result HasSize }
 {
     match command {
-        Some(command) if names == command.files() => Some(command),
+        Some(command) if words == command.words() => Some(command),
         _ => None,
     }
 }
 
-#[tactic(auto, using(crate::proofs::Words::asks_for))]
+fn is_number(word: &str) -> bool
+    ensures { result ≡ list_all is_ascii_digit word.now }
+{
+    word.as_bytes().iter().all(|byte| byte.is_ascii_digit())
+}
+
+#[tactic(auto, using(crate::proofs::Words::seed_parsed))]
+fn seed_of(word: &str) -> Option<u64>
+    ensures { result ≡ seed_of word.now }
+{
+    if word.len() <= 20 && is_number(word) {
+        word.parse().ok()
+    } else {
+        None
+    }
+}
+
+fn size_of(word: &str) -> Option<u8>
+    ensures value { result ≡ size_of word.now }
+    ensures sized { IfSome result IsSize }
+{
+    match word.as_bytes() {
+        [digit @ b'1'..=b'8'] => Some(*digit - b'0'),
+        _ => None,
+    }
+}
+
+fn generating(words: &[String]) -> Option<Command>
+    ensures value { result ≡ generating (bytes_of words.now) }
+    ensures words { IfSome result (λ command. length words.now ≡ words_of command) }
+    ensures sized { IfSome result HasSize }
+{
+    let [seed, size] = words else {
+        return None;
+    };
+    let seed = seed_of(seed.as_str())?;
+    let size = size_of(size.as_str())?;
+    Some(Command::Gen { seed, size })
+}
+
 fn listed(words: &[String]) -> Option<Command>
     ensures value { result ≡ listed (bytes_of words.now) }
-    ensures names { IfSome result (λ command.
-        length words.now ≡ length (requests_of command (bytes_of words.now)) + 1) }
+    ensures words { IfSome result (λ command. length words.now ≡ words_of command + 1) }
+    ensures sized { IfSome result HasSize }
 {
     match words {
         [] => None,
-        [word, names @ ..] => asking(named(word.as_str()), names.len()),
+        [word, words @ ..] if word.as_str() == "gen" => generating(words),
+        [word, words @ ..] => asking(named(word.as_str()), words.len()),
     }
 }
 
@@ -91,8 +146,8 @@ fn any_dash(words: &[String]) -> bool
 #[tactic(auto, using(crate::proofs::Words::list_any_map))]
 pub fn find_command(words: &[String]) -> Option<Command>
     ensures value { result ≡ command_of (bytes_of words.now) }
-    ensures names { IfSome result (λ command.
-        length words.now ≡ length (requests_of command (bytes_of words.now)) + 1) }
+    ensures words { IfSome result (λ command. length words.now ≡ words_of command + 1) }
+    ensures sized { IfSome result HasSize }
 {
     if any_dash(words) { None } else { listed(words) }
 }

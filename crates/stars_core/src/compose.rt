@@ -2,14 +2,16 @@
 ghost use Rattle.std.specs.Prelude.{[], ◌∷◌};
 ghost use Rattle.stars_core.specs.CommandLine.{bytes_of, command_of, three_requests, four_requests};
 ghost use Rattle.sb_outside.specs.Shelf.{GoesBy};
-ghost use Rattle.stars_core.specs.Composing.{Composed, Ran};
+ghost use Rattle.workload_gen.specs.Workloads.{IsSize};
+ghost use Rattle.stars_core.specs.Composing.{Composed, Ran, AllRan};
 ghost use Rattle.stars_core.specs.Running.{FewCalls};
 
 use crate::command::{find_command, word_at};
 use crate::running::run_case;
 use crate::taking::{take_case, take_derivation, take_rules};
 use crate::{
-    Command, Pieces, Refusal, TextKind, frontier_query, plan_query, print_checked, verify_query,
+    Command, Pieces, Refusal, TextKind, frontier_query, generate, plan_query, print_checked,
+    verify_query,
 };
 use sb_outside::Shelf;
 use std::alloc::Global;
@@ -91,6 +93,14 @@ fn verify<S: Shelf>(
     Ok(Pieces::of(answer))
 }
 
+fn run_generated(alloc: Global, seed: u64, size: u8) -> Result<Pieces, Refusal>
+    requires { IsSize size }
+    ensures { AllRan seed size result }
+{
+    let answer = generate(alloc, seed, size)?;
+    Ok(Pieces::of(answer))
+}
+
 /// What the words ask to be put out, or why nothing is.
 pub fn compose<S: Shelf>(alloc: Global, words: &[String], shelf: &mut S) -> Result<Pieces, Refusal>
     ensures { Composed (S.state shelf.old) (S.state shelf.new) (bytes_of words.now)
@@ -105,6 +115,7 @@ pub fn compose<S: Shelf>(alloc: Global, words: &[String], shelf: &mut S) -> Resu
         Command::Plan => plan(alloc, shelf, first, word_at(words, 2), word_at(words, 3)),
         Command::Run => run(alloc, shelf, first, word_at(words, 2), word_at(words, 3)),
         Command::Frontier => frontier(alloc, shelf, first, word_at(words, 2), word_at(words, 3)),
+        Command::Gen { seed, size } => run_generated(alloc, seed, size),
         Command::Verify => verify(
             alloc,
             shelf,

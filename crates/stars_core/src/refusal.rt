@@ -2,11 +2,12 @@
 ghost use Rattle.std.specs.Prelude.{◌≡◌};
 ghost use Rattle.stars_core.specs.declared.refusal.Refusal.TheVariants.{Memory};
 ghost use Rattle.stars_core.specs.Lines.{status_of, line_of};
-ghost use Rattle.stars_core.specs.Refusals.{refusal_of};
+ghost use Rattle.stars_core.specs.Refusals.{refusal_of, refusal_by};
 
 use crate::Status;
 use std::alloc::AllocError;
 use table_taking::Stop;
+use workload_runs::GenFault;
 
 /// What a text is to be.
 #[derive(Clone, Copy, Debug, PartialEq, Eq)]
@@ -51,6 +52,17 @@ impl From<Stop> for Refusal {
             Stop::Unread(line) => Refusal::Unread(line),
             Stop::Refused(line) => Refusal::Table(line),
             Stop::Memory => Refusal::Memory,
+        }
+    }
+}
+
+impl From<GenFault> for Refusal {
+    ghost from_gives = { λ fault e. e ≡ refusal_by fault };
+
+    fn from(fault: GenFault) -> Self {
+        match fault {
+            GenFault::Size => Refusal::Usage,
+            GenFault::Memory => Refusal::Memory,
         }
     }
 }

@@ -6,7 +6,7 @@ ghost use Rattle.star_model.specs.Selectivity.{selects_of, weighed};
 ghost use Rattle.star_model.specs.declared.catalogue.Catalogue.{Catalogue as CatalogueTree};
 ghost use Rattle.star_model.specs.declared.query.Query.{Query as QueryTree};
 ghost use Rattle.star_model.specs.declared.rules.RuleFile.{RuleFile};
-ghost use Rattle.stars_core.specs.CommandLine.{CommandLine, requests_of};
+ghost use Rattle.stars_core.specs.CommandLine.{CommandLine, requests_of, HasSize};
 ghost use Rattle.stars_core.specs.Given.{Given};
 ghost use Rattle.stars_core.specs.Faults.{Verdict, Judged, PassAll};
 ghost use Rattle.stars_core.specs.Judging.{RulesPass, CataloguePasses, QueryPasses};
@@ -24,10 +24,11 @@ pub fn one_verdict()
         × Judged earlier this verdict }
 {}
 
-/// Texts that a command asks for say something to it where they are accepted.
+/// Texts that a command asks for say something to it where they are accepted; and the texts of each
+/// workload do.
 pub fn accepted_texts_say()
     ensures { (told : Option Files) (command : Command) (words : CommandLine) (given : List Given)
-        → HeldAs told (requests_of command words) given → PassAll [] given
+        → HasSize command → HeldAs told (requests_of command words) given → PassAll [] given
         → (saying : Saying command) × Says command given saying }
 {}
 

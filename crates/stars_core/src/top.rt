@@ -8,7 +8,7 @@ ghost use Rattle.stars_core.specs.CommandLine.{bytes_of, command_of};
 ghost use Rattle.stars_core.specs.Pieces.{pieces_of};
 ghost use Rattle.stars_core.specs.Bounds.{calls_of, puts_of};
 ghost use Rattle.stars_core.specs.Answers.{Answered, LinePut};
-ghost use Rattle.stars_core.specs.Told.{Complete, RefusedExactly, TableRefusedExactly, RunCalls, RunPuts};
+ghost use Rattle.stars_core.specs.Told.{Complete, GenComplete, RefusedExactly, TableRefusedExactly, RunCalls, RunPuts};
 
 use crate::compose::compose;
 use crate::{Ending, Pieces, Status};
@@ -57,6 +57,7 @@ pub fn stars<S: Shelf, O: Sink, E: Sink>(
         (O.state out.old) (O.state out.new) (E.state err.old) (E.state err.new) }
     ensures complete { Complete result (bytes_of words.now) (S.state shelf.old) (S.state shelf.new)
         (O.state out.old) (O.state out.new) }
+    ensures generated { GenComplete result (bytes_of words.now) (O.state out.old) (O.state out.new) }
     ensures refused { RefusedExactly result (bytes_of words.now) (S.state shelf.old)
         (S.state shelf.new) (E.state err.old) (E.state err.new) }
     ensures table_refused { TableRefusedExactly result (bytes_of words.now) (S.state shelf.old)

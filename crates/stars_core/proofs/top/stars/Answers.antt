@@ -4,9 +4,11 @@ use Rattle.stars_core.specs.declared.status.Ending.TheVariants as endings
 use Rattle.stars_core.specs.CommandLine.{bytes_of, command_of}
 use Rattle.stars_core.specs.Lines.{status_of}
 use Rattle.stars_core.proofs.Derived.{complete, refused_exactly}
+use Rattle.stars_core.proofs.GenEnds.{gen_complete}
 use Rattle.stars_core.proofs.Counted.{puts_few, one_put, run_calls}
 use Rattle.stars_core.proofs.TablesExactly.{table_refused_exactly}
 use Rattle.stars_core.proofs.Causes.{answered_at, output_at, part_at, shelf_kept}
+use Rattle.stars_core.proofs.Failing.{usage_at, pieces_quiet, read_fault_at}
 use Rattle.stars_core.proofs.top.stars.Goals as goal
 
 pub returns-in-Done-clause-answer : goal.returns-in-Done-clause-answer
@@ -17,6 +19,10 @@ returns-in-Done-clause-answer g c =
 pub returns-in-Done-clause-complete : goal.returns-in-Done-clause-complete
 returns-in-Done-clause-complete g c =
     complete Done (bytes_of c.args.words.now) _ _ (g.O.Sink.state c.args.out.now) (g.O.Sink.state c.emit.new.out) (g.E.Sink.state c.args.err.now) (g.E.Sink.state c.args.err.now) (returns-in-Done-clause-answer g c)
+
+pub returns-in-Done-clause-generated : goal.returns-in-Done-clause-generated
+returns-in-Done-clause-generated g c =
+    gen_complete Done (bytes_of c.args.words.now) _ _ (g.O.Sink.state c.args.out.now) (g.O.Sink.state c.emit.new.out) (g.E.Sink.state c.args.err.now) (g.E.Sink.state c.args.err.now) (returns-in-Done-clause-answer g c)
 
 pub returns-in-Done-clause-refused : goal.returns-in-Done-clause-refused
 returns-in-Done-clause-refused g c =
@@ -49,6 +55,10 @@ pub returns-in-Ok-emit-clause-complete : goal.returns-in-Ok-emit-clause-complete
 returns-in-Ok-emit-clause-complete g c =
     complete NoPlan (bytes_of c.args.words.now) _ _ (g.O.Sink.state c.args.out.now) (g.O.Sink.state c.emit.new.out) (g.E.Sink.state c.args.err.now) (g.E.Sink.state c.args.err.now) (returns-in-Ok-emit-clause-answer g c)
 
+pub returns-in-Ok-emit-clause-generated : goal.returns-in-Ok-emit-clause-generated
+returns-in-Ok-emit-clause-generated g c =
+    gen_complete NoPlan (bytes_of c.args.words.now) _ _ (g.O.Sink.state c.args.out.now) (g.O.Sink.state c.emit.new.out) (g.E.Sink.state c.args.err.now) (g.E.Sink.state c.args.err.now) (returns-in-Ok-emit-clause-answer g c)
+
 pub returns-in-Ok-emit-clause-refused : goal.returns-in-Ok-emit-clause-refused
 returns-in-Ok-emit-clause-refused g c =
     refused_exactly NoPlan (bytes_of c.args.words.now) _ _ (g.O.Sink.state c.args.out.now) (g.O.Sink.state c.emit.new.out) (g.E.Sink.state c.args.err.now) (g.E.Sink.state c.args.err.now) (returns-in-Ok-emit-clause-answer g c)
@@ -79,6 +89,10 @@ returns-in-Ok-clause-answer g c =
 pub returns-in-Ok-clause-complete : goal.returns-in-Ok-clause-complete
 returns-in-Ok-clause-complete g c =
     complete WriteFault (bytes_of c.args.words.now) _ _ (g.O.Sink.state c.args.out.now) (g.O.Sink.state c.emit.new.out) (g.E.Sink.state c.args.err.now) (g.E.Sink.state c.tell.new.err) (returns-in-Ok-clause-answer g c)
+
+pub returns-in-Ok-clause-generated : goal.returns-in-Ok-clause-generated
+returns-in-Ok-clause-generated g c =
+    gen_complete WriteFault (bytes_of c.args.words.now) _ _ (g.O.Sink.state c.args.out.now) (g.O.Sink.state c.emit.new.out) (g.E.Sink.state c.args.err.now) (g.E.Sink.state c.tell.new.err) (returns-in-Ok-clause-answer g c)
 
 pub returns-in-Ok-clause-refused : goal.returns-in-Ok-clause-refused
 returns-in-Ok-clause-refused g c =
@@ -117,6 +131,15 @@ returns-clause-complete g c =
     rw c.status.ensures
     (complete (status_of c.in-Err.refusal) (bytes_of c.args.words.now) _ _ (g.O.Sink.state c.args.out.now) (g.O.Sink.state c.args.out.now) _ _ answered)
 
+pub returns-clause-generated : goal.returns-clause-generated
+returns-clause-generated g c =
+    let answered =
+    answered_at (bytes_of c.args.words.now) c.in-Err.refusal (command_of (bytes_of c.args.words.now)) _ _ (g.O.Sink.state c.args.out.now) _ _ refl c.in-Err.ensures
+    (rw c.line.ensures at c.tell-in-Err.ensures.told)
+    in
+    rw c.status.ensures
+    (gen_complete (status_of c.in-Err.refusal) (bytes_of c.args.words.now) _ _ (g.O.Sink.state c.args.out.now) (g.O.Sink.state c.args.out.now) _ _ answered)
+
 pub returns-clause-refused : goal.returns-clause-refused
 returns-clause-refused g c =
     let answered =
@@ -152,3 +175,17 @@ returns-clause-run_calls g c = run_calls (bytes_of c.args.words.now) (command_of
 
 pub returns-clause-shelf : goal.returns-clause-shelf
 returns-clause-shelf g c = shelf_kept (bytes_of c.args.words.now) (command_of (bytes_of c.args.words.now)) _ _ _ c.in-Err.ensures
+
+pub returns-in-Done-clause-read_faults : goal.returns-in-Done-clause-read_faults
+returns-in-Done-clause-read_faults g c = pieces_quiet (bytes_of c.args.words.now) (command_of (bytes_of c.args.words.now)) _ _ c.in-Ok.pieces c.in-Ok.ensures
+
+pub returns-in-Ok-emit-clause-read_faults : goal.returns-in-Ok-emit-clause-read_faults
+returns-in-Ok-emit-clause-read_faults g c = pieces_quiet (bytes_of c.args.words.now) (command_of (bytes_of c.args.words.now)) _ _ c.in-Ok.pieces c.in-Ok.ensures
+
+pub returns-clause-usage : goal.returns-clause-usage
+returns-clause-usage g c =
+    rw c.status.ensures (usage_at (bytes_of c.args.words.now) c.in-Err.refusal (command_of (bytes_of c.args.words.now)) _ _ refl c.in-Err.ensures)
+
+pub returns-clause-read_faults : goal.returns-clause-read_faults
+returns-clause-read_faults g c =
+    rw c.status.ensures (read_fault_at (bytes_of c.args.words.now) c.in-Err.refusal (command_of (bytes_of c.args.words.now)) _ _ c.in-Err.ensures)
