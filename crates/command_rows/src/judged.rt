@@ -3,10 +3,13 @@ ghost use Rattle.star_model.specs.WellFormed.{WellFormedCatalogue};
 
 use crate::runs::Texts;
 use star_model::catalogue::Catalogue;
-use stars_core::{Answer, Refusal, Status, judge_catalogue, judge_query, plan_texts};
+use stars_core::{
+    Answer, Refusal, Status, check_text, frontier_texts, judge_catalogue, judge_query, plan_texts,
+    verify_texts,
+};
 use std::alloc::{AllocError, Global};
 
-// How the planning of three texts ends, and its text or line.
+// How a call over texts ends, and its text or line.
 fn answered(alloc: Global, answer: Result<Answer, Refusal>) -> Result<String, AllocError> {
     match answer {
         Ok(Answer { ending, text }) => {
@@ -29,7 +32,32 @@ pub fn planned(alloc: Global, texts: Texts<'_>) -> Result<String, AllocError> {
     answered(alloc, plan_texts(alloc, rules, catalogue, query))
 }
 
-/// The first line of the same: that with the numbers of the plan, or that of the fault.
+/// How the call that lists the frontier of the texts ends, and its text or line.
+pub fn listed(alloc: Global, texts: Texts<'_>) -> Result<String, AllocError> {
+    let rules = texts.rules.as_bytes();
+    let catalogue = texts.catalogue.as_bytes();
+    let query = texts.query.as_bytes();
+    answered(alloc, frontier_texts(alloc, rules, catalogue, query))
+}
+
+/// How the call that checks a rule file ends, and its text or line.
+pub fn checked(alloc: Global, rules: &str) -> Result<String, AllocError> {
+    answered(alloc, check_text(alloc, rules.as_bytes()))
+}
+
+/// How the call that verifies a derivation over the texts ends, and its text or line.
+pub fn verified(alloc: Global, texts: Texts<'_>, derivation: &str) -> Result<String, AllocError> {
+    let rules = texts.rules.as_bytes();
+    let catalogue = texts.catalogue.as_bytes();
+    let query = texts.query.as_bytes();
+    let derivation = derivation.as_bytes();
+    answered(
+        alloc,
+        verify_texts(alloc, rules, catalogue, query, derivation),
+    )
+}
+
+/// The first line of what planning answers: that with the numbers of the plan, or that of the fault.
 pub fn first_line(alloc: Global, texts: Texts<'_>) -> Result<String, AllocError> {
     let told = planned(alloc, texts)?;
     let (_, text) = told.split_once(": ").unwrap_or(("", told.as_str()));
