@@ -29,7 +29,7 @@ NotFetched before now request Usage = ⊥
 NotFetched before now request (Unread line) = FailsAt before now (false, request.1) × (string_bytes line ≡ cannot_read request.1)
 NotFetched before now request (Refused kind line) =
     NoFault before now × (kind ≡ request.0) × (string_bytes line ≡ too_long_line kind)
-    × TellsMore before.held request.1 most_text_bytes × RoseBy 1048577 before.taken now.taken
+    × TellsMore before.held request.1 most_text_bytes × RoseBy (most_text_bytes + 1) before.taken now.taken
 NotFetched before now request (Table line) = ⊥
 NotFetched before now request (NotDerived line) = ⊥
 NotFetched before now request Memory = Unit {0}
@@ -45,7 +45,7 @@ pub record StopTaken (P : List ℕ → List ℕ → Type 0) (before now : ShelfS
   pub told : TellsBytes before.held request.1 bytes
   pub stops : P bytes line
   pub quiet : NoFault before now
-  pub too_long : most_text_bytes < length bytes → RoseBy 1048577 before.taken now.taken
+  pub too_long : most_text_bytes < length bytes → RoseBy (most_text_bytes + 1) before.taken now.taken
 
 -- a file wasn't taken: it couldn't be read, or its text is stopped as P says
 abbrev pub NotTaken : (List ℕ → List ℕ → Type 0) → ShelfState → ShelfState → Request → Refusal → Type 0
@@ -81,7 +81,7 @@ pub record Stopping (before now : ShelfState) (line : List ℕ) (this : Request)
   pub told : TellsBytes before.held this.1 bytes
   pub stops : Stops earlier (this.0, bytes) line
   pub quiet : NoFault before now
-  pub too_long : most_text_bytes < length bytes → RoseBy 1048577 before.taken now.taken
+  pub too_long : most_text_bytes < length bytes → RoseBy (most_text_bytes + 1) before.taken now.taken
 
 -- The text of this kind at some place is stopped with this line, and those before it are accepted.
 abbrev pub RefusedAt : ShelfState → ShelfState → List Request → TextKind → List ℕ → Type 0

@@ -57,7 +57,8 @@ pub fn stars<S: Shelf, O: Sink, E: Sink>(
         (O.state out.old) (O.state out.new) (E.state err.old) (E.state err.new) }
     ensures complete { Complete result (bytes_of words.now) (S.state shelf.old) (S.state shelf.new)
         (O.state out.old) (O.state out.new) }
-    ensures generated { GenComplete result (bytes_of words.now) (O.state out.old) (O.state out.new) }
+    ensures generated { GenComplete result (bytes_of words.now) (O.state out.old)
+        (O.state out.new) }
     ensures refused { RefusedExactly result (bytes_of words.now) (S.state shelf.old)
         (S.state shelf.new) (E.state err.old) (E.state err.new) }
     ensures table_refused { TableRefusedExactly result (bytes_of words.now) (S.state shelf.old)

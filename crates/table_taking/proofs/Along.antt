@@ -11,6 +11,7 @@ use Rattle.star_model.specs.WellFormed.{WellFormedQuery}
 use Rattle.star_model.specs.declared.catalogue.Value.{Value}
 use Rattle.star_model.specs.declared.query.Query.{Query}
 use Rattle.row_steps.specs.declared.tables.Tables.{Tables}
+use Rattle.table_taking.specs.Limits.{most_table_bytes}
 use Rattle.table_taking.specs.QueryTables.{tables_of, file_of, HasRows}
 use Rattle.table_taking.specs.Taking.{CameTo, IsLong, IsFaulty, StoppedBy, TablesTaken}
 use Rattle.table_taking.specs.OneTable.{NotTaken, TableTaken}
@@ -147,7 +148,7 @@ module _ (query : Query) (before : ShelfState) (numbers : List ℕ) where
 
     long : (line : List ℕ) → IsLong query mid now n line → IsLong query before now n line
     long line is = record {
-      more = subst (λ told. TellsMore told (file_of query n) 67108864)
+      more = subst (λ told. TellsMore told (file_of query n) most_table_bytes)
           along.by.held is.more;
       taken = omega (arith, is.taken, along.by.taken);
       tells = is.tells;
@@ -156,7 +157,7 @@ module _ (query : Query) (before : ShelfState) (numbers : List ℕ) where
     faulty : (line : List ℕ) → IsFaulty query mid now n line → IsFaulty query before now n line
     faulty line is = record {
       records = is.records;
-      held = subst (λ told. TellsRecords told (file_of query n) 67108864 is.records) along.by.held
+      held = subst (λ told. TellsRecords told (file_of query n) most_table_bytes is.records) along.by.held
           is.held;
       fault = is.fault;
       first = is.first;

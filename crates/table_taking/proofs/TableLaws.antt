@@ -14,6 +14,7 @@ use Rattle.star_model.specs.declared.query.Query.{Query}
 use Rattle.row_store.specs.Faults.{IsFirstFault, RecordsHave}
 use Rattle.row_store.specs.declared.fault.TableFault.{TableFault}
 use Rattle.row_store.proofs.Laws.{one_fault, clear_rows_are}
+use Rattle.table_taking.specs.Limits.{most_table_bytes}
 use Rattle.table_taking.specs.QueryTables.{tables_of, name_of, file_of, HasRows, AreRows}
 use Rattle.table_taking.specs.Lines.{fault_line, long_line}
 use Rattle.table_taking.specs.Taking.{RefusedAt, IsLong, IsFaulty}
@@ -55,26 +56,26 @@ module _ (q : Query) (n : ℕ) where
       (clear_rows_are q.catalogue n records within).1 (rows, are) fault first.has
 
   module _ (files : Files) (bytes : List ℕ) (held : files (file_of q n) ≡ Some bytes) where
-    not_long : length bytes ≤ 67108864 → TellsMore (Some files) (file_of q n) 67108864 → ⊥
+    not_long : length bytes ≤ most_table_bytes → TellsMore (Some files) (file_of q n) most_table_bytes → ⊥
     not_long within more =
-        let P : Option (List ℕ) → Type 0 = λ o. IsSomeAnd o (λ bytes. 67108864 < length bytes) in
+        let P : Option (List ℕ) → Type 0 = λ o. IsSomeAnd o (λ bytes. most_table_bytes < length bytes) in
         omega (arith, within, subst P held more)
 
     same_bytes : (records : Records)
-        (tells : TellsRecords (Some files) (file_of q n) 67108864 records) → tells.bytes ≡ bytes
+        (tells : TellsRecords (Some files) (file_of q n) most_table_bytes records) → tells.bytes ≡ bytes
     same_bytes records tells = one_content files (file_of q n) tells.bytes bytes tells.held held
 
-    told_within : (records : Records) → TellsRecords (Some files) (file_of q n) 67108864 records
-        → length bytes ≤ 67108864
+    told_within : (records : Records) → TellsRecords (Some files) (file_of q n) most_table_bytes records
+        → length bytes ≤ most_table_bytes
     told_within records tells = omega (arith, tells.within, ap length (same_bytes records tells))
 
-    same_records : (records : Records) → TellsRecords (Some files) (file_of q n) 67108864 records
+    same_records : (records : Records) → TellsRecords (Some files) (file_of q n) most_table_bytes records
         → records ≡ records_of bytes
     same_records records tells = tells.read ∙ ap records_of (same_bytes records tells)
 
     -- a file that is refused has no rows
     refused_has_none : (line : List ℕ)
-        → ((67108864 < length bytes) × (line ≡ long_line (name_of q n)))
+        → ((most_table_bytes < length bytes) × (line ≡ long_line (name_of q n)))
         ⊎ HaveFault q files n bytes line
         → (rows : List (List Value)) → HasRows q (Some files) n rows → ⊥
     refused_has_none line (inl long) rows has =
@@ -84,17 +85,17 @@ module _ (q : Query) (n : ℕ) where
         (ap (table_rows q.catalogue n) (sym (same_records has.records has.held)) ∙ has.are)
 
     module _ (before now : ShelfState) (told : before.held ≡ Some files) where
-      tells_records : (records : Records) → TellsRecords before.held (file_of q n) 67108864 records
-          → TellsRecords (Some files) (file_of q n) 67108864 records
-      tells_records records tells = subst (λ held. TellsRecords held (file_of q n) 67108864 records)
+      tells_records : (records : Records) → TellsRecords before.held (file_of q n) most_table_bytes records
+          → TellsRecords (Some files) (file_of q n) most_table_bytes records
+      tells_records records tells = subst (λ held. TellsRecords held (file_of q n) most_table_bytes records)
           told tells
 
-      tells_more : TellsMore before.held (file_of q n) 67108864
-          → TellsMore (Some files) (file_of q n) 67108864
-      tells_more more = subst (λ held. TellsMore held (file_of q n) 67108864) told more
+      tells_more : TellsMore before.held (file_of q n) most_table_bytes
+          → TellsMore (Some files) (file_of q n) most_table_bytes
+      tells_more more = subst (λ held. TellsMore held (file_of q n) most_table_bytes) told more
 
       -- one that holds rows isn't refused
-      holding_not_refused : length bytes ≤ 67108864 → (rows : List (List Value))
+      holding_not_refused : length bytes ≤ most_table_bytes → (rows : List (List Value))
           → table_rows q.catalogue n (records_of bytes) ≡ Some rows
           → (line : List ℕ) → IsLong q before now n line ⊎ IsFaulty q before now n line → ⊥
       holding_not_refused within rows are line (inl is) = not_long within (tells_more is.more)
@@ -104,7 +105,7 @@ module _ (q : Query) (n : ℕ) where
 
       -- one that is refused has one line
       same_line : (line other : List ℕ)
-          → ((67108864 < length bytes) × (line ≡ long_line (name_of q n)))
+          → ((most_table_bytes < length bytes) × (line ≡ long_line (name_of q n)))
           ⊎ HaveFault q files n bytes line
           → IsLong q before now n other ⊎ IsFaulty q before now n other → other ≡ line
       same_line line other (inl long) (inl is) = is.tells ∙ sym long.1

@@ -1,4 +1,5 @@
 -- for readers of the promise
+pub mod Limits
 pub mod QueryTables
 pub mod Lines
 pub mod Taking

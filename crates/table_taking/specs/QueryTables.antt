@@ -7,6 +7,7 @@ use Rattle.star_model.specs.Answers.{Data}
 use Rattle.star_model.specs.Data.{table_rows}
 use Rattle.star_model.specs.declared.catalogue.Value.{Value}
 use Rattle.star_model.specs.declared.query.Query.{Query}
+use Rattle.table_taking.specs.Limits.{most_table_bytes}
 
 -- each number once, by its first place
 abbrev pub firsts : List ℕ → List ℕ
@@ -29,7 +30,7 @@ module _ (query : Query) (told : Option Files) where
   -- these are the rows of the table, from the records of its file, where that is told
   pub record HasRows (n : ℕ) (rows : List (List Value)) : Type 0 where
     pub records : Records
-    pub held : TellsRecords told (file_of query n) 67108864 records
+    pub held : TellsRecords told (file_of query n) most_table_bytes records
     pub are : table_rows query.catalogue n records ≡ Some rows
 
   -- the rows of each table of the query are its rows

@@ -9,6 +9,7 @@ use Rattle.row_store.specs.Faults.{IsFirstFault}
 use Rattle.row_store.specs.declared.fault.TableFault.{TableFault}
 use Rattle.row_steps.specs.LoadedTables.{data_of}
 use Rattle.row_steps.specs.declared.tables.Tables.{Tables}
+use Rattle.table_taking.specs.Limits.{most_table_bytes}
 use Rattle.table_taking.specs.QueryTables.{tables_of, name_of, file_of, HasRows, AreRows}
 use Rattle.table_taking.specs.Lines.{fault_line, long_line, cannot_read}
 use Rattle.table_taking.specs.declared.stop.Stop.{Stop}
@@ -30,14 +31,14 @@ module _ (query : Query) where
 
     -- the file of this table is too long
     pub record IsLong (n : ℕ) (line : List ℕ) : Type 0 where
-      pub more : TellsMore before.held (file_of query n) 67108864
-      pub taken : RoseBy 67108865 before.taken now.taken
+      pub more : TellsMore before.held (file_of query n) most_table_bytes
+      pub taken : RoseBy (most_table_bytes + 1) before.taken now.taken
       pub tells : line ≡ long_line (name_of query n)
 
     -- the records of its file have a fault, and the line tells the first
     pub record IsFaulty (n : ℕ) (line : List ℕ) : Type 0 where
       pub records : Records
-      pub held : TellsRecords before.held (file_of query n) 67108864 records
+      pub held : TellsRecords before.held (file_of query n) most_table_bytes records
       pub fault : TableFault
       pub first : IsFirstFault query.catalogue n records fault
       pub tells : fault_line (name_of query n) fault ≡ Some line

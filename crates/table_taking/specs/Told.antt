@@ -7,6 +7,7 @@ use Rattle.star_model.specs.declared.catalogue.Value.{Value}
 use Rattle.star_model.specs.declared.query.Query.{Query}
 use Rattle.row_store.specs.Faults.{IsFirstFault}
 use Rattle.row_store.specs.declared.fault.TableFault.{TableFault}
+use Rattle.table_taking.specs.Limits.{most_table_bytes}
 use Rattle.table_taking.specs.QueryTables.{tables_of, name_of, file_of}
 use Rattle.table_taking.specs.Lines.{fault_line, long_line}
 
@@ -15,7 +16,7 @@ module _ (query : Query) (files : Files) where
   pub record HoldsTable (n : ℕ) : Type 0 where
     pub bytes : List ℕ
     pub held : files (file_of query n) ≡ Some bytes
-    pub within : length bytes ≤ 67108864
+    pub within : length bytes ≤ most_table_bytes
     pub rows : List (List Value)
     pub are : table_rows query.catalogue n (records_of bytes) ≡ Some rows
 
@@ -25,7 +26,7 @@ module _ (query : Query) (files : Files) where
 
   -- these bytes of the table's file have a fault, and the line tells the first
   pub record HaveFault (n : ℕ) (bytes line : List ℕ) : Type 0 where
-    pub within : length bytes ≤ 67108864
+    pub within : length bytes ≤ most_table_bytes
     pub fault : TableFault
     pub first : IsFirstFault query.catalogue n (records_of bytes) fault
     pub tells : fault_line (name_of query n) fault ≡ Some line
@@ -37,5 +38,5 @@ module _ (query : Query) (files : Files) where
     pub earlier : (m : ℕ) → Contains (take place (tables_of query)) m → HoldsTable m
     pub bytes : List ℕ
     pub held : files (file_of query n) ≡ Some bytes
-    pub why : ((67108864 < length bytes) × (line ≡ long_line (name_of query n)))
+    pub why : ((most_table_bytes < length bytes) × (line ≡ long_line (name_of query n)))
         ⊎ HaveFault n bytes line
